@@ -1,0 +1,209 @@
+// The two frame formats of GB/T 43671-2024: their limits, their identifier fields, the flags of
+// their pieces, and the refusals that all calls share.
+ghost use mathlib.Core.Path.{_≡_};
+ghost use Rattle.format.specs.Formats.{packetLimit, pieceSize, headerSize, numberRange, formatOf, inRange};
+ghost use Rattle.format.specs.Refusals.{number};
+
+// The extended format, with 29-bit identifiers.
+pub struct Extended;
+
+// The standard format, with 11-bit identifiers.
+pub struct Standard;
+
+impl Extended {
+    // Most bytes in a packet: 256 filled pieces.
+    pub const PACKET_LIMIT: usize = 2048;
+
+    // Packet bytes in a filled piece.
+    pub const PIECE_SIZE: usize = 8;
+
+    // Image bytes before the data bytes.
+    pub const HEADER_SIZE: usize = 5;
+
+    // Values that a piece's number takes.
+    pub const NUMBER_RANGE: usize = 64;
+}
+
+impl Standard {
+    pub const PACKET_LIMIT: usize = 1792;
+
+    pub const PIECE_SIZE: usize = 7;
+
+    pub const HEADER_SIZE: usize = 2;
+
+    pub const NUMBER_RANGE: usize = 256;
+}
+
+pub enum Format {
+    Extended,
+    Standard,
+}
+
+impl Format {
+    pub fn packet_limit(self) -> usize
+        ensures { λ r. ⌜ r ≡ packetLimit self ⌝ }
+    {
+        match self {
+            Format::Extended => Extended::PACKET_LIMIT,
+            Format::Standard => Standard::PACKET_LIMIT,
+        }
+    }
+
+    pub fn piece_size(self) -> usize
+        ensures { λ r. ⌜ r ≡ pieceSize self ⌝ }
+    {
+        match self {
+            Format::Extended => Extended::PIECE_SIZE,
+            Format::Standard => Standard::PIECE_SIZE,
+        }
+    }
+
+    pub fn header_size(self) -> usize
+        ensures { λ r. ⌜ r ≡ headerSize self ⌝ }
+    {
+        match self {
+            Format::Extended => Extended::HEADER_SIZE,
+            Format::Standard => Standard::HEADER_SIZE,
+        }
+    }
+
+    pub fn number_range(self) -> usize
+        ensures { λ r. ⌜ r ≡ numberRange self ⌝ }
+    {
+        match self {
+            Format::Extended => Extended::NUMBER_RANGE,
+            Format::Standard => Standard::NUMBER_RANGE,
+        }
+    }
+}
+
+// The identifier's fields, but for the flag and the number, which belong to a piece.
+pub enum Fields {
+    Extended {
+        priority: u8,
+        source: u8,
+        group: u8,
+        destination: u8,
+        function: u8,
+    },
+    Standard {
+        priority: u8,
+        address: u8,
+        side: u8,
+    },
+}
+
+impl Fields {
+    pub fn format(self) -> Format
+        ensures { λ r. ⌜ r ≡ formatOf self ⌝ }
+    {
+        match self {
+            Fields::Extended {
+                priority: _,
+                source: _,
+                group: _,
+                destination: _,
+                function: _,
+            } => Format::Extended,
+            Fields::Standard {
+                priority: _,
+                address: _,
+                side: _,
+            } => Format::Standard,
+        }
+    }
+
+    pub fn in_range(self) -> bool
+        ensures { λ r. ⌜ r ≡ inRange self ⌝ }
+    {
+        match self {
+            Fields::Extended {
+                priority,
+                source,
+                group,
+                destination,
+                function,
+            } => {
+                (priority <= 3)
+                    & (source <= 63)
+                    & (group <= 3)
+                    & (destination <= 63)
+                    & (function <= 31)
+            }
+            Fields::Standard {
+                priority,
+                address,
+                side,
+            } => (priority <= 3) & (address <= 63) & (side <= 1),
+        }
+    }
+}
+
+// What piece of its packet a frame is.
+pub enum Flag {
+    Middle,
+    Start,
+    End,
+    Single,
+}
+
+// Why a call refused; document 01's name for each number, in the order of the numbers.
+pub enum Refusal {
+    Length,
+    Form,
+    Remote,
+    Count,
+    Piece,
+    Orphan,
+    Step,
+    Long,
+    Field,
+    Size,
+    Index,
+    Room,
+    Store,
+    Taken,
+    Full,
+    Closed,
+    NoPacket,
+    Busy,
+    Idle,
+    NotAwaited,
+    State,
+}
+
+impl Refusal {
+    pub fn number(self) -> u8
+        ensures { λ r. ⌜ r ≡ number self ⌝ }
+    {
+        match self {
+            Refusal::Length => 1,
+            Refusal::Form => 2,
+            Refusal::Remote => 3,
+            Refusal::Count => 4,
+            Refusal::Piece => 5,
+            Refusal::Orphan => 6,
+            Refusal::Step => 7,
+            Refusal::Long => 8,
+            Refusal::Field => 9,
+            Refusal::Size => 10,
+            Refusal::Index => 11,
+            Refusal::Room => 12,
+            Refusal::Store => 13,
+            Refusal::Taken => 14,
+            Refusal::Full => 15,
+            Refusal::Closed => 16,
+            Refusal::NoPacket => 17,
+            Refusal::Busy => 18,
+            Refusal::Idle => 19,
+            Refusal::NotAwaited => 20,
+            Refusal::State => 21,
+        }
+    }
+}
+
+// The answer of a call that gives a count, a length or a slot: that number, or a refusal.
+pub enum Outcome {
+    Value(usize),
+    Refused(Refusal),
+}

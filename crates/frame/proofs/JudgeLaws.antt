@@ -1,0 +1,97 @@
+-- The checks of an image, one after the other, for the code that makes them.
+use Prim.Native.Nat.{ℕ, _+_, _-_, _≤_, _<_}
+use mathlib.Core.Path.{_≡_, refl, sym, ap, _∙_}
+use mathlib.Core.Bool.{Bool, true, false, not}
+use mathlib.Core.List.{List, [], _∷_}
+use native.Mathlib.Omega.{arith}
+use lib.Dec.{leb, eqb}
+use lib.ListN.{length}
+use borrow.Author.Tests.{le-leb, lt-leb, eq-eqb, ne-eqb, not-true, not-false}
+use Rattle.format.specs.declared.Format.{Format}
+use Rattle.format.specs.declared.Refusal.the-variants.{Length, Form, Remote, Count, Piece}
+use Rattle.format.specs.Tests.{all}
+use Rattle.format.specs.Formats.{headerSize}
+use Rattle.format.specs.Refusals.{Result, value, refused, guarded}
+use Rattle.format.proofs.Checks.{stop, pass, none-left}
+use Rattle.frame.specs.declared.Layout.{Layout}
+use Rattle.frame.specs.Layout.{layout}
+use Rattle.frame.specs.Judge.{pieceRule, checks, Judged, readBy, judge}
+
+both : (a b : Bool) → a ≡ true → b ≡ true → all (a ∷ b ∷ []) ≡ true
+unfolding all
+both a b p q = rw (p, q)
+
+first-fails : (a b : Bool) → a ≡ false → all (a ∷ b ∷ []) ≡ false
+unfolding all
+first-fails a b p = rw p
+
+second-fails : (a b : Bool) → a ≡ true → b ≡ false → all (a ∷ b ∷ []) ≡ false
+unfolding all
+second-fails a b p q = rw (p, q)
+
+-- header, number of data bytes and layout, as the code has them
+module _ (format : Format) (image : List ℕ) (said : Layout) (e : said ≡ layout format image) (header : ℕ) (eh : header ≡ headerSize format) where
+  judged : {r : Result Judged} → r ≡ guarded (checks format (length image) said) (readBy said image) → r ≡ judge format image
+  unfolding judge
+  judged h = h ∙ ap (λ (l : Layout). guarded (checks format (length image) l) (readBy l image)) e
+
+  pub too-short : length image < header → refused 1 ≡ judge format image
+  unfolding checks
+  too-short h = let m : length image < headerSize format = omega arith in judged (stop Length _ _ (first-fails _ _ (lt-leb _ _ m)))
+
+  pub too-long : header ≤ length image → 8 < length image - header → refused 1 ≡ judge format image
+  unfolding checks
+  too-long h k =
+      let l : headerSize format ≤ length image = omega arith in
+      let m : headerSize format + 8 < length image = omega arith in
+      judged (stop Length _ _ (second-fails _ _ (le-leb _ _ l) (lt-leb _ _ m)))
+
+  module _ (h : header ≤ length image) (k : length image - header ≤ 8) where
+    sized : all (leb (headerSize format) (length image) ∷ leb (length image) (headerSize format + 8) ∷ []) ≡ true
+    sized =
+        let l : headerSize format ≤ length image = omega arith in
+        let m : length image ≤ headerSize format + 8 = omega arith in
+        both _ _ (le-leb _ _ l) (le-leb _ _ m)
+
+    pub misformed : not (said .fixed) ≡ true → refused 2 ≡ judge format image
+    unfolding checks
+    misformed f = judged (pass Length _ _ sized (stop Form _ _ (not-true (said .fixed) f)))
+
+    module _ (formed : not (said .fixed) ≡ false) where
+      f : said .fixed ≡ true
+      f = not-false (said .fixed) formed
+
+      pub remote : (said .rtr ≡ 0 → ⊥) → refused 3 ≡ judge format image
+      unfolding checks
+      remote r = judged (pass Length _ _ sized (pass Form _ _ f (stop Remote _ _ (ne-eqb _ _ r))))
+
+      module _ (r : said .rtr ≡ 0) where
+        miscounted : all (leb (said .count) 8 ∷ eqb (length image) (headerSize format + said .count) ∷ []) ≡ false → refused 4 ≡ judge format image
+        unfolding checks
+        miscounted c = judged (pass Length _ _ sized (pass Form _ _ f (pass Remote _ _ (eq-eqb _ _ r) (stop Count _ _ c))))
+
+        pub over-eight : 8 < said .count → refused 4 ≡ judge format image
+        over-eight c = miscounted (first-fails _ _ (lt-leb _ _ c))
+
+        module _ (c : said .count ≤ 8) (count : ℕ) (ec : count ≡ said .count) where
+          pub other-count : (length image - header ≡ count → ⊥) → refused 4 ≡ judge format image
+          other-count n =
+              let m : length image ≡ headerSize format + said .count → ⊥ = λ q. n (omega arith) in
+              miscounted (second-fails _ _ (le-leb _ _ c) (ne-eqb _ _ m))
+
+          module _ (n : length image - header ≡ count) (rule : Bool) (er : rule ≡ pieceRule format (said .flag) (said .count) (said .number)) where
+            counted : all (leb (said .count) 8 ∷ eqb (length image) (headerSize format + said .count) ∷ []) ≡ true
+            counted = let m : length image ≡ headerSize format + said .count = omega arith in both _ _ (le-leb _ _ c) (eq-eqb _ _ m)
+
+            pub unruled : not rule ≡ true → refused 5 ≡ judge format image
+            unfolding checks
+            unruled p =
+                judged
+                (pass Length _ _ sized (pass Form _ _ f (pass Remote _ _ (eq-eqb _ _ r) (pass Count _ _ counted (stop Piece _ _ (sym er ∙ not-true rule p))))))
+
+            pub ruled : not rule ≡ false → value (readBy said image) ≡ judge format image
+            unfolding checks
+            ruled p =
+                judged
+                (pass Length _ _ sized
+                (pass Form _ _ f (pass Remote _ _ (eq-eqb _ _ r) (pass Count _ _ counted (pass Piece _ _ (sym er ∙ not-false rule p) (none-left _))))))

@@ -1,0 +1,62 @@
+-- Document 01, "Frame images": what stands where in the two images, "bits high first", and what each flag means.
+use Prim.Native.Nat.{ℕ, _/_, _%_}
+use mathlib.Core.Bool.{Bool, true, cond}
+use mathlib.Core.List.{List, [], _∷_}
+use lib.Dec.{eqb}
+use lib.ListN.{getD}
+use Rattle.format.specs.declared.Format.{Format}
+use Rattle.format.specs.declared.Format.the-variants.{Extended, Standard}
+use Rattle.format.specs.declared.Fields.the-variants as fields
+use Rattle.format.specs.declared.Flag.{Flag}
+use Rattle.format.specs.declared.Flag.the-variants.{Middle, Start, End, Single}
+use Rattle.format.specs.Tests.{all}
+use Rattle.frame.specs.declared.Layout.{Layout}
+
+-- "Flags: 01 start, 00 middle, 10 end, 11 single."
+unfoldable pub flagOf : ℕ → Flag
+flagOf bits = cond (eqb bits 0) Middle (cond (eqb bits 1) Start (cond (eqb bits 2) End Single))
+
+-- "In a start, middle or end piece the first data byte is the number": a standard single has none, for which 0 stands
+unfoldable pub numberIn : Flag → ℕ → ℕ
+numberIn Start first = first
+numberIn Middle first = first
+numberIn End first = first
+numberIn Single first = 0
+
+-- "it isn't packet data": where in an image the packet bytes begin; they run to its end
+unfoldable pub packetStart : Format → Flag → ℕ
+packetStart Extended flag = 5
+packetStart Standard Start = 3
+packetStart Standard Middle = 3
+packetStart Standard End = 3
+packetStart Standard Single = 2
+
+-- Extended: byte 0: 1, RTR, 0, 0, count (4 bits); byte 1: priority (2), source (6); byte 2: group (2), destination (6);
+-- byte 3: flag (2), number (6); byte 4: function (5), 000; then the data bytes.
+-- Standard: byte 0: priority (2), address (6); byte 1: side (1), flag (2), RTR, count (4); then data.
+-- `fixed` says whether the fixed bits are right.
+unfoldable pub layout : Format → List ℕ → Layout
+layout Extended image =
+    let byte : ℕ → ℕ = λ i. getD image i 0 in
+    let flag : Flag = flagOf (byte 3 / 64) in
+    record {
+      fixed = all (eqb (byte 0 / 128) 1 ∷ eqb (byte 0 / 16 % 4) 0 ∷ eqb (byte 4 % 8) 0 ∷ []);
+      rtr = byte 0 / 64 % 2;
+      count = byte 0 % 16;
+      fields = fields.Extended (byte 1 / 64) (byte 1 % 64) (byte 2 / 64) (byte 2 % 64) (byte 4 / 8);
+      flag = flag;
+      number = byte 3 % 64;
+      start = packetStart Extended flag;
+    }
+layout Standard image =
+    let byte : ℕ → ℕ = λ i. getD image i 0 in
+    let flag : Flag = flagOf (byte 1 / 32 % 4) in
+    record {
+      fixed = true;
+      rtr = byte 1 / 16 % 2;
+      count = byte 1 % 16;
+      fields = fields.Standard (byte 0 / 64) (byte 0 % 64) (byte 1 / 128);
+      flag = flag;
+      number = numberIn flag (byte 2);
+      start = packetStart Standard flag;
+    }

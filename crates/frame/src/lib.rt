@@ -1,0 +1,226 @@
+// Frame images: what the bytes of one image say, and whether they are a sound frame.
+use format::Fields;
+use format::Flag;
+use format::Format;
+use format::Refusal;
+ghost use mathlib.Core.Path.{_≡_};
+ghost use Prim.Native.Nat.{_≤_};
+ghost use lib.ListN.{length, getD};
+ghost use Rattle.format.specs.Formats.{headerSize};
+ghost use Rattle.frame.specs.Layout.{flagOf, numberIn, packetStart, layout};
+ghost use Rattle.frame.specs.Judge.{pieceRule, judge, meaning};
+
+// What stands in the bits of an image, right or wrong.
+struct Layout {
+    pub fixed: bool,
+    pub rtr: u8,
+    pub count: u8,
+    pub fields: Fields,
+    pub flag: Flag,
+    pub number: u8,
+    pub start: usize,
+}
+
+// A sound frame, but for its packet bytes: these are the image's bytes from start to its end.
+pub struct Head {
+    pub fields: Fields,
+    pub flag: Flag,
+    pub number: u8,
+    pub start: usize,
+}
+
+pub enum Verdict {
+    Sound(Head),
+    Refused(Refusal),
+}
+
+fn wide(x: u8) -> usize
+    ensures { λ r. ⌜ r ≡ x ⌝ }
+{
+    x as usize
+}
+
+fn flag_of(bits: u8) -> Flag
+    ensures { λ r. ⌜ r ≡ flagOf bits ⌝ }
+{
+    if bits == 0 {
+        return Flag::Middle;
+    }
+    if bits == 1 {
+        return Flag::Start;
+    }
+    if bits == 2 {
+        return Flag::End;
+    }
+    Flag::Single
+}
+
+fn layout_extended(image: &[u8]) -> Layout
+    requires { ⌜ 5 ≤ length (now image) ⌝ }
+    ensures { λ r. ⌜ r ≡ layout Format.Extended (now (image .entry)) ⌝ }
+{
+    let b0 = image[0];
+    let b1 = image[1];
+    let b2 = image[2];
+    let b3 = image[3];
+    let b4 = image[4];
+    let flag = flag_of(b3 / 64);
+    let fields = Fields::Extended {
+        priority: b1 / 64,
+        source: b1 % 64,
+        group: b2 / 64,
+        destination: b2 % 64,
+        function: b4 / 8,
+    };
+    Layout {
+        fixed: (b0 / 128 == 1) & (b0 / 16 % 4 == 0) & (b4 % 8 == 0),
+        rtr: b0 / 64 % 2,
+        count: b0 % 16,
+        fields: fields,
+        flag: flag,
+        number: b3 % 64,
+        start: 5,
+    }
+}
+
+// The byte at 2, which in a start, middle or end piece is the number; 0 where there is none.
+fn number_byte(image: &[u8]) -> u8
+    ensures { λ r. ⌜ r ≡ getD (now (image .entry)) 2 0 ⌝ }
+{
+    if 2 < image.len() { image[2] } else { 0 }
+}
+
+fn number_in(flag: Flag, first: u8) -> u8
+    ensures { λ r. ⌜ r ≡ numberIn flag first ⌝ }
+{
+    match flag {
+        Flag::Middle => first,
+        Flag::Start => first,
+        Flag::End => first,
+        Flag::Single => 0,
+    }
+}
+
+fn packet_start(flag: Flag) -> usize
+    ensures { λ r. ⌜ r ≡ packetStart Format.Standard flag ⌝ }
+{
+    match flag {
+        Flag::Middle => 3,
+        Flag::Start => 3,
+        Flag::End => 3,
+        Flag::Single => 2,
+    }
+}
+
+fn layout_standard(image: &[u8]) -> Layout
+    requires { ⌜ 2 ≤ length (now image) ⌝ }
+    ensures { λ r. ⌜ r ≡ layout Format.Standard (now (image .entry)) ⌝ }
+{
+    let b0 = image[0];
+    let b1 = image[1];
+    let flag = flag_of(b1 / 32 % 4);
+    let first = number_byte(image);
+    let number = number_in(flag, first);
+    let start = packet_start(flag);
+    let fields = Fields::Standard {
+        priority: b0 / 64,
+        address: b0 % 64,
+        side: b1 / 128,
+    };
+    Layout {
+        fixed: true,
+        rtr: b1 / 16 % 2,
+        count: b1 % 16,
+        fields: fields,
+        flag: flag,
+        number: number,
+        start: start,
+    }
+}
+
+fn layout_of(format: Format, image: &[u8]) -> Layout
+    requires { ⌜ headerSize format ≤ length (now image) ⌝ }
+    ensures { λ r. ⌜ r ≡ layout format (now (image .entry)) ⌝ }
+{
+    match format {
+        Format::Extended => layout_extended(image),
+        Format::Standard => layout_standard(image),
+    }
+}
+
+fn middle_rule(format: Format, count: u8, number: u8) -> bool
+    ensures { λ r. ⌜ r ≡ pieceRule format Flag.Middle count number ⌝ }
+{
+    match format {
+        Format::Extended => count == 8,
+        Format::Standard => (count == 8) & (1 <= number) & (number <= 254),
+    }
+}
+
+fn end_rule(format: Format, count: u8, number: u8) -> bool
+    ensures { λ r. ⌜ r ≡ pieceRule format Flag.End count number ⌝ }
+{
+    match format {
+        Format::Extended => (1 <= count) & (count <= 8),
+        Format::Standard => {
+            (1 <= number)
+                & (number <= 255)
+                & (2 <= count)
+                & (count <= 8)
+                & ((number != 1) | (3 <= count))
+        }
+    }
+}
+
+fn piece_rule(format: Format, flag: Flag, count: u8, number: u8) -> bool
+    ensures { λ r. ⌜ r ≡ pieceRule format flag count number ⌝ }
+{
+    match flag {
+        Flag::Middle => middle_rule(format, count, number),
+        Flag::Start => (count == 8) & (number == 0),
+        Flag::End => end_rule(format, count, number),
+        Flag::Single => (count <= 8) & (number == 0),
+    }
+}
+
+// Judges an image of any bytes and any length: the frame that it is, or the first refusal of 1 to
+// 5 that applies.
+pub fn judge(format: Format, image: &[u8]) -> Verdict
+    ensures { λ r. ⌜ meaning r (now (image .entry)) ≡ judge format (now (image .entry)) ⌝ }
+{
+    let n = image.len();
+    let header = format.header_size();
+    if n < header {
+        return Verdict::Refused(Refusal::Length);
+    }
+    if n - header > 8 {
+        return Verdict::Refused(Refusal::Length);
+    }
+    let l = layout_of(format, image);
+    let fixed = l.fixed;
+    if !fixed {
+        return Verdict::Refused(Refusal::Form);
+    }
+    if l.rtr != 0 {
+        return Verdict::Refused(Refusal::Remote);
+    }
+    let count = l.count;
+    if count > 8 {
+        return Verdict::Refused(Refusal::Count);
+    }
+    if n - header != wide(count) {
+        return Verdict::Refused(Refusal::Count);
+    }
+    let flag = l.flag;
+    if !piece_rule(format, flag, count, l.number) {
+        return Verdict::Refused(Refusal::Piece);
+    }
+    let fields = l.fields;
+    let head = Head {
+        fields: fields,
+        flag: flag,
+        number: l.number,
+        start: l.start,
+    };
+    Verdict::Sound(head)
+}
