@@ -2,7 +2,7 @@
 -- 1,792 standard (256 pieces in each). [..] Fields: priority 0 to 3, source, destination and address 0 to 63, group 0 to 3,
 -- function 0 to 31, side 0 to 1."
 use Prim.Native.Nat.{ℕ}
-use mathlib.Core.Bool.{Bool}
+use mathlib.Core.Bool.{Bool, true, false}
 use mathlib.Core.List.{List, [], _∷_}
 use lib.Dec.{leb}
 use Rattle.format.specs.declared.Format.{Format}
@@ -33,6 +33,15 @@ headerSize Standard = 2
 abbrev pub numberRange : Format → ℕ
 numberRange Extended = 64
 numberRange Standard = 256
+
+-- "Frame images": "In a start, middle or end piece the first data byte is the number; it isn't packet data." This is said of
+-- the standard image; an extended one has its number in byte 3
+abbrev pub numbered : Format → Flag → Bool
+numbered Extended flag = false
+numbered Standard Start = true
+numbered Standard Middle = true
+numbered Standard End = true
+numbered Standard Single = false
 
 abbrev pub formatOf : Fields → Format
 formatOf (fields.Extended priority source group destination function) = Extended

@@ -1,7 +1,7 @@
 // The two frame formats of GB/T 43671-2024: their limits, their identifier fields, the flags of
 // their pieces, and the refusals that all calls share.
 ghost use mathlib.Core.Path.{_≡_};
-ghost use Rattle.format.specs.Formats.{packetLimit, pieceSize, headerSize, numberRange, formatOf, inRange};
+ghost use Rattle.format.specs.Formats.{packetLimit, pieceSize, headerSize, numberRange, numbered, formatOf, inRange};
 ghost use Rattle.format.specs.Refusals.{number};
 
 // The extended format, with 29-bit identifiers.
@@ -73,6 +73,21 @@ impl Format {
         match self {
             Format::Extended => Extended::NUMBER_RANGE,
             Format::Standard => Standard::NUMBER_RANGE,
+        }
+    }
+
+    // Whether the first data byte of such a piece is its number, and no packet byte.
+    pub fn numbered(self, flag: Flag) -> bool
+        ensures { λ r. ⌜ r ≡ numbered self flag ⌝ }
+    {
+        match self {
+            Format::Extended => false,
+            Format::Standard => match flag {
+                Flag::Middle => true,
+                Flag::Start => true,
+                Flag::End => true,
+                Flag::Single => false,
+            },
         }
     }
 }

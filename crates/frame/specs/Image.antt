@@ -1,17 +1,16 @@
 -- Document 01, "Frame images": the image of a frame, and what a sound frame is.
 use Prim.Native.Nat.{ℕ, _+_, _*_}
-use mathlib.Core.Bool.{Bool}
+use mathlib.Core.Bool.{Bool, cond}
 use mathlib.Core.List.{List, [], _∷_, _++_}
 use lib.Dec.{ltb}
 use lib.ListN.{length}
 use Rattle.format.specs.declared.Fields.{Fields}
 use Rattle.format.specs.declared.Fields.the-variants.{Extended, Standard}
 use Rattle.format.specs.declared.Format.{Format}
-use Rattle.format.specs.declared.Format.the-variants as format
 use Rattle.format.specs.declared.Flag.{Flag}
 use Rattle.format.specs.declared.Flag.the-variants.{Middle, Start, End, Single}
 use Rattle.format.specs.Tests.{all}
-use Rattle.format.specs.Formats.{formatOf, numberRange, inRange}
+use Rattle.format.specs.Formats.{formatOf, numberRange, numbered, inRange}
 use Rattle.frame.specs.Judge.{Frame, pieceRule}
 
 -- "Flags: 01 start, 00 middle, 10 end, 11 single."
@@ -22,15 +21,8 @@ flagBits End = 2
 flagBits Single = 3
 
 -- the data bytes: in a standard start, middle or end piece the number, then the packet bytes
-unfoldable pub dataBytes : Format → Flag → ℕ → List ℕ → List ℕ
-dataBytes format.Extended flag number bytes = bytes
-dataBytes format.Standard Start number bytes = number ∷ bytes
-dataBytes format.Standard Middle number bytes = number ∷ bytes
-dataBytes format.Standard End number bytes = number ∷ bytes
-dataBytes format.Standard Single number bytes = bytes
-
 abbrev pub dataOf : Frame → List ℕ
-dataOf frame = dataBytes (formatOf (frame .fields)) (frame .flag) (frame .number) (frame .bytes)
+dataOf frame = cond (numbered (formatOf (frame .fields)) (frame .flag)) (frame .number ∷ frame .bytes) (frame .bytes)
 
 -- the header's bytes by fields, flag, number and count, with RTR 0
 unfoldable pub header : Fields → Flag → (number count : ℕ) → List ℕ

@@ -1,5 +1,5 @@
 -- Document 01, "Frame images": what stands where in the two images, "bits high first", and what each flag means.
-use Prim.Native.Nat.{ℕ, _/_, _%_}
+use Prim.Native.Nat.{ℕ, _+_, _/_, _%_}
 use mathlib.Core.Bool.{Bool, true, cond}
 use mathlib.Core.List.{List, [], _∷_}
 use lib.Dec.{eqb}
@@ -10,31 +10,22 @@ use Rattle.format.specs.declared.Fields.the-variants as fields
 use Rattle.format.specs.declared.Flag.{Flag}
 use Rattle.format.specs.declared.Flag.the-variants.{Middle, Start, End, Single}
 use Rattle.format.specs.Tests.{all}
+use Rattle.format.specs.Formats.{headerSize, numbered}
 use Rattle.frame.specs.declared.Layout.{Layout}
 
 -- "Flags: 01 start, 00 middle, 10 end, 11 single."
 unfoldable pub flagOf : ℕ → Flag
 flagOf bits = cond (eqb bits 0) Middle (cond (eqb bits 1) Start (cond (eqb bits 2) End Single))
 
--- "In a start, middle or end piece the first data byte is the number": a standard single has none, for which 0 stands
-unfoldable pub numberIn : Flag → ℕ → ℕ
-numberIn Start first = first
-numberIn Middle first = first
-numberIn End first = first
-numberIn Single first = 0
-
--- "it isn't packet data": where in an image the packet bytes begin; they run to its end
-unfoldable pub packetStart : Format → Flag → ℕ
-packetStart Extended flag = 5
-packetStart Standard Start = 3
-packetStart Standard Middle = 3
-packetStart Standard End = 3
-packetStart Standard Single = 2
+-- where in an image the packet bytes begin: after the header and, in a standard start, middle or end piece, the number. They
+-- run to its end
+abbrev pub packetStart : Format → Flag → ℕ
+packetStart format flag = cond (numbered format flag) (headerSize format + 1) (headerSize format)
 
 -- Extended: byte 0: 1, RTR, 0, 0, count (4 bits); byte 1: priority (2), source (6); byte 2: group (2), destination (6);
 -- byte 3: flag (2), number (6); byte 4: function (5), 000; then the data bytes.
 -- Standard: byte 0: priority (2), address (6); byte 1: side (1), flag (2), RTR, count (4); then data.
--- `fixed` says whether the fixed bits are right.
+-- `fixed` says whether the fixed bits are right. A standard single has no number, for which 0 stands.
 unfoldable pub layout : Format → List ℕ → Layout
 layout Extended image =
     let byte : ℕ → ℕ = λ i. getD image i 0 in
@@ -57,6 +48,6 @@ layout Standard image =
       count = byte 1 % 16;
       fields = fields.Standard (byte 0 / 64) (byte 0 % 64) (byte 1 / 128);
       flag = flag;
-      number = numberIn flag (byte 2);
+      number = cond (numbered Standard flag) (byte 2) 0;
       start = packetStart Standard flag;
     }

@@ -1,13 +1,16 @@
 // Frame images: what the bytes of one image say, and whether they are a sound frame.
+use format::Extended;
 use format::Fields;
 use format::Flag;
 use format::Format;
 use format::Refusal;
+use format::Standard;
 ghost use mathlib.Core.Path.{_≡_};
-ghost use Prim.Native.Nat.{_≤_};
+ghost use mathlib.Core.Bool.{cond};
+ghost use Prim.Native.Nat.{_+_, _≤_};
 ghost use lib.ListN.{length, getD};
 ghost use Rattle.format.specs.Formats.{headerSize};
-ghost use Rattle.frame.specs.Layout.{flagOf, numberIn, packetStart, layout};
+ghost use Rattle.frame.specs.Layout.{flagOf, layout};
 ghost use Rattle.frame.specs.Judge.{pieceRule, judge, meaning};
 
 // What stands in the bits of an image, right or wrong.
@@ -79,7 +82,7 @@ fn layout_extended(image: &[u8]) -> Layout
         fields: fields,
         flag: flag,
         number: b3 % 64,
-        start: 5,
+        start: Extended::HEADER_SIZE,
     }
 }
 
@@ -90,26 +93,17 @@ fn number_byte(image: &[u8]) -> u8
     if 2 < image.len() { image[2] } else { 0 }
 }
 
-fn number_in(flag: Flag, first: u8) -> u8
-    ensures { λ r. ⌜ r ≡ numberIn flag first ⌝ }
+fn number_if(numbered: bool, first: u8) -> u8
+    ensures { λ r. ⌜ r ≡ cond numbered first 0 ⌝ }
 {
-    match flag {
-        Flag::Middle => first,
-        Flag::Start => first,
-        Flag::End => first,
-        Flag::Single => 0,
-    }
+    if numbered { first } else { 0 }
 }
 
-fn packet_start(flag: Flag) -> usize
-    ensures { λ r. ⌜ r ≡ packetStart Format.Standard flag ⌝ }
+fn start_if(numbered: bool, header: usize) -> usize
+    requires { ⌜ header ≤ 5 ⌝ }
+    ensures { λ r. ⌜ r ≡ cond numbered (header + 1) header ⌝ }
 {
-    match flag {
-        Flag::Middle => 3,
-        Flag::Start => 3,
-        Flag::End => 3,
-        Flag::Single => 2,
-    }
+    if numbered { header + 1 } else { header }
 }
 
 fn layout_standard(image: &[u8]) -> Layout
@@ -119,9 +113,10 @@ fn layout_standard(image: &[u8]) -> Layout
     let b0 = image[0];
     let b1 = image[1];
     let flag = flag_of(b1 / 32 % 4);
+    let numbered = Format::Standard.numbered(flag);
     let first = number_byte(image);
-    let number = number_in(flag, first);
-    let start = packet_start(flag);
+    let number = number_if(numbered, first);
+    let start = start_if(numbered, Standard::HEADER_SIZE);
     let fields = Fields::Standard {
         priority: b0 / 64,
         address: b0 % 64,

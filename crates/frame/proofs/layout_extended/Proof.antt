@@ -1,6 +1,6 @@
 use borrow.Author.Needs.{needs}
 use Rattle.format.specs.Tests.{all}
-use Rattle.frame.specs.Layout.{layout, packetStart}
+use Rattle.frame.specs.Layout.{layout}
 use Rattle.frame.proofs.layout_extended.Statement.{statement}
 use Rattle.frame.proofs.layout_extended.Tie as tie
 use Rattle.frame.proofs.layout_extended.Reads as reads
@@ -33,7 +33,7 @@ flag-of-requires c κs = search needs
 
 -- src/lib.rt:56:1
 returns : tie.Need-returns
-unfolding layout packetStart all
+unfolding layout all
 returns c = simp (c .flag-of .ensures)
 
 pub layout-extended-spec : {M : Type 1} → statement M

@@ -1,0 +1,2 @@
+-- Bytes written one after the other.
+use Prim.Native.Nat.{ℕ}

@@ -1,0 +1,80 @@
+use mathlib.Core.Path.{_≡_, _∙_, sym, ap, refl}
+use Prim.Native.Nat.{ℕ, _≤_, _<_, _+_, _-_}
+use native.Mathlib.Nat.{le-antisymm}
+use native.Mathlib.Numerals.{add-one}
+use native.Mathlib.Omega.{arith}
+use borrow.Author.Needs.{needs}
+use lib.ListN.{length, getD, length-set}
+use lib.Seq.{paste, paste-zero, paste-suc}
+use Rattle.packet.proofs.copy_in.Statement.{statement}
+use Rattle.packet.proofs.copy_in.Tie as tie
+use Rattle.packet.proofs.copy_in.Reads as reads
+use Rattle.packet.proofs.copy_in.Lts as lts
+
+abbrev Inv-loop : tie.InvT-loop
+Inv-loop output₀ at bytes j₀ output j = (j ≤ length bytes) × (output ≡ paste output₀ at bytes j) × (length output ≡ length output₀)
+
+abbrev μ-loop : tie.MeasureT-loop
+μ-loop output₀ at bytes j₀ output j = length bytes - j
+
+-- src/lib.rt:13:5
+loop-holds : tie.Need-loop-holds Inv-loop μ-loop
+loop-holds c = (search needs, paste-zero (c .args .output .now) (c .args .at) (c .args .bytes .now), refl)
+
+-- src/lib.rt:14:24
+shared-slice-read-output : tie.Need-shared-slice-read-output Inv-loop μ-loop
+shared-slice-read-output c = search needs
+
+-- src/lib.rt:14:14
+add-output : tie.Need-add-output Inv-loop μ-loop
+add-output c = search needs
+
+-- src/lib.rt:14:9
+slice-write-output : tie.Need-slice-write-output Inv-loop μ-loop
+slice-write-output c = search needs
+
+-- src/lib.rt:15:9
+add-j : tie.Need-add-j Inv-loop μ-loop
+add-j c = search needs
+
+-- src/lib.rt:13:5
+loop-less : tie.Need-loop-less Inv-loop μ-loop
+loop-less c = search needs
+
+-- src/lib.rt:13:5
+loop-again : tie.Need-loop-again Inv-loop μ-loop
+loop-again c =
+    let a = c .before .before in
+    let g = a .before .args in
+    let room : g .at + a .loop .j < length (g .output .now) = omega arith in (
+      search needs,
+      rw (a .loop .inv .1, add-one) (paste-suc (g .output .now) (g .at) (g .bytes .now) (a .loop .j) 0 room (search needs)),
+      rw (length-set, a .loop .inv .2),
+    )
+
+-- src/lib.rt:8:1
+same-length : tie.Need-same-length Inv-loop μ-loop
+same-length c = search needs
+
+-- src/lib.rt:8:1
+returns : tie.Need-returns Inv-loop μ-loop
+returns c =
+    let a = c .before in
+    let e : a .loop .j ≡ length (a .before .args .bytes .now) = le-antisymm (a .loop .inv .0) (c .loop-test .left) in
+    rw (a .loop .inv .1, e)
+
+pub copy-in-spec : {M : Type 1} → statement M
+copy-in-spec =
+    tie.close
+    (tie.spec
+    Inv-loop
+    μ-loop
+    loop-holds
+    shared-slice-read-output
+    add-output
+    slice-write-output
+    add-j
+    loop-less
+    loop-again
+    same-length
+    returns)
