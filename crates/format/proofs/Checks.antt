@@ -1,5 +1,7 @@
 -- A list of checks, one after the other.
+use Prim.Native.Nat.{ℕ}
 use mathlib.Core.Path.{_≡_, refl}
+use native.Mathlib.Omega.{arith}
 use mathlib.Core.Bool.{Bool, true, false}
 use mathlib.Core.List.{List, [], _∷_}
 use Rattle.format.specs.declared.Refusal.{Refusal}
@@ -20,3 +22,14 @@ module _ {A : Type 0} (name : Refusal) (rest : List Check) (x : A) {ok : Bool} w
 pub none-left : {A : Type 0} (x : A) → value x ≡ guarded [] x
 unfolding guarded
 none-left x = refl
+
+-- where a value comes out, every check holds
+abbrev pub Passed : List Check → Type 0
+Passed [] = Unit {0}
+Passed (check name ok ∷ rest) = (ok ≡ true) × Passed rest
+
+pub passed : {A : Type 0} (checks : List Check) (x y : A) → guarded checks x ≡ value y → Passed checks × (x ≡ y)
+unfolding guarded
+passed [] x y e = (tt, (cc))
+passed (check name true ∷ rest) x y e = let r = passed rest x y e in ((refl, r .0), r .1)
+passed (check name false ∷ rest) x y e = let z : _≡_ {A = ℕ} 0 1 = cc in absurd (omega arith)

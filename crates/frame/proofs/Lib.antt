@@ -1,1 +1,3 @@
+pub mod Flags
 mod JudgeLaws
+pub mod Images

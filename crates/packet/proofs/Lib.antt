@@ -1,2 +1,4 @@
 pub mod Counts
 mod Writing
+mod Placing
+mod Sending

@@ -1,8 +1,13 @@
 // Splitting: the pieces of a packet, as frame images.
-use format::{Extended, Fields, Flag, Format, Outcome, Refusal, Standard};
-
+use format::Extended;
+use format::Fields;
+use format::Flag;
+use format::Format;
+use format::Outcome;
+use format::Refusal;
+use format::Standard;
 ghost use mathlib.Core.Path.{_≡_};
-ghost use mathlib.Core.Bool.{true};
+ghost use mathlib.Core.Bool.{true, cond};
 ghost use mathlib.Core.List.{[], _∷_, _++_};
 ghost use Prim.Native.Nat.{_+_, _*_, _%_, _≤_, _<_};
 ghost use lib.ListN.{length};
@@ -12,6 +17,7 @@ ghost use Rattle.format.specs.Refusals.{meaning};
 ghost use Rattle.frame.specs.Image.{flagBits, header, imageOf};
 ghost use Rattle.packet.specs.Split.{pieceCount, pieceFlag, pieceBytes, frameOf};
 ghost use Rattle.packet.specs.Send.{countOf, send, answer, over, after};
+ghost use Rattle.packet.specs.Parts.{Placed};
 
 // The number of pieces, over the piece size z.
 fn count_of(z: usize, n: usize) -> usize
@@ -110,33 +116,6 @@ fn put(head: &[u8], bytes: &[u8], output: &mut [u8])
     copy_in(output, at, bytes);
 }
 
-// The size of a frame's image.
-fn image_size(fields: Fields, flag: Flag, number: u8, bytes: &[u8]) -> usize
-    requires { ⌜ length (now bytes) ≤ 8 ⌝ }
-    ensures { λ r. ⌜ r ≡ length (imageOf (frameOf fields flag number (now (bytes .entry)))) ⌝ }
-{
-    let n = bytes.len();
-    match fields {
-        Fields::Extended {
-            priority: _,
-            source: _,
-            group: _,
-            destination: _,
-            function: _,
-        } => Extended::HEADER_SIZE + n,
-        Fields::Standard {
-            priority: _,
-            address: _,
-            side: _,
-        } => match flag {
-            Flag::Middle => Standard::HEADER_SIZE + (n + 1),
-            Flag::Start => Standard::HEADER_SIZE + (n + 1),
-            Flag::End => Standard::HEADER_SIZE + (n + 1),
-            Flag::Single => Standard::HEADER_SIZE + n,
-        },
-    }
-}
-
 fn header_extended(
     priority: u8,
     source: u8,
@@ -160,10 +139,149 @@ fn header_extended(
     ]
 }
 
-fn header_standard(priority: u8, address: u8, side: u8, flag: Flag, count: u8) -> [u8; 2]
+// The header, and after it the number for the pieces that have one among their data bytes.
+fn header_standard(
+    priority: u8,
+    address: u8,
+    side: u8,
+    flag: Flag,
+    number: u8,
+    count: u8,
+) -> [u8; 3]
     requires { ⌜ (inRange (Fields.Standard priority address side) ≡ true) × (count ≤ 9) ⌝ }
-    ensures { λ r. ⌜ r ≡ header (Fields.Standard priority address side) flag 0 count ⌝ }
+    ensures { λ r. ⌜ r ≡ header (Fields.Standard priority address side) flag number count ++ (number ∷ []) ⌝ }
 {
     let bits = flag_bits(flag);
-    [64 * priority + address, 128 * side + 32 * bits + count]
+    [
+        64 * priority + address,
+        128 * side + 32 * bits + count,
+        number,
+    ]
+}
+
+fn data_count(numbered: bool, n: usize) -> usize
+    requires { ⌜ n ≤ 8 ⌝ }
+    ensures { λ r. ⌜ r ≡ cond numbered (n + 1) n ⌝ }
+{
+    if numbered { n + 1 } else { n }
+}
+
+// Writes the image of an extended frame, or refuses with ROOM.
+fn place_extended(
+    priority: u8,
+    source: u8,
+    group: u8,
+    destination: u8,
+    function: u8,
+    flag: Flag,
+    number: u8,
+    bytes: &[u8],
+    output: &mut [u8],
+) -> Outcome
+    requires { ⌜ (inRange (Fields.Extended priority source group destination function) ≡ true) × (number < 64) × (length (now bytes) ≤ 8) ⌝ }
+    ensures { λ r. ⌜ Placed (frameOf (Fields.Extended priority source group destination function) flag number (now (bytes .entry))) (now (output .entry)) r (now (output .exit)) ⌝ }
+{
+    let n = bytes.len();
+    let size = Extended::HEADER_SIZE + n;
+    if output.len() < size {
+        return Outcome::Refused(Refusal::Room);
+    }
+    let count = n as u8;
+    let head = header_extended(
+        priority,
+        source,
+        group,
+        destination,
+        function,
+        flag,
+        number,
+        count,
+    );
+    put(&head, bytes, output);
+    Outcome::Value(size)
+}
+
+// Writes the image of a standard frame, or refuses with ROOM.
+fn place_standard(
+    priority: u8,
+    address: u8,
+    side: u8,
+    flag: Flag,
+    number: u8,
+    bytes: &[u8],
+    output: &mut [u8],
+) -> Outcome
+    requires { ⌜ (inRange (Fields.Standard priority address side) ≡ true) × (length (now bytes) ≤ 8) ⌝ }
+    ensures { λ r. ⌜ Placed (frameOf (Fields.Standard priority address side) flag number (now (bytes .entry))) (now (output .entry)) r (now (output .exit)) ⌝ }
+{
+    let numbered = Format::Standard.numbered(flag);
+    let n = data_count(numbered, bytes.len());
+    let size = Standard::HEADER_SIZE + n;
+    if output.len() < size {
+        return Outcome::Refused(Refusal::Room);
+    }
+    let count = n as u8;
+    let head = header_standard(priority, address, side, flag, number, count);
+    if numbered {
+        put(&head, bytes, output);
+        return Outcome::Value(size);
+    }
+    put(&head[..2], bytes, output);
+    Outcome::Value(size)
+}
+
+// Writes the image of a frame, or refuses with ROOM.
+fn place(fields: Fields, flag: Flag, number: u8, bytes: &[u8], output: &mut [u8]) -> Outcome
+    requires { ⌜ (inRange fields ≡ true) × (number < numberRange (formatOf fields)) × (length (now bytes) ≤ 8) ⌝ }
+    ensures { λ r. ⌜ Placed (frameOf fields flag number (now (bytes .entry))) (now (output .entry)) r (now (output .exit)) ⌝ }
+{
+    match fields {
+        Fields::Extended {
+            priority,
+            source,
+            group,
+            destination,
+            function,
+        } => place_extended(
+            priority,
+            source,
+            group,
+            destination,
+            function,
+            flag,
+            number,
+            bytes,
+            output,
+        ),
+        Fields::Standard {
+            priority,
+            address,
+            side,
+        } => place_standard(priority, address, side, flag, number, bytes, output),
+    }
+}
+
+// Writes the image of piece k of a packet over the head of the output and answers its length, or
+// refuses: FIELD, SIZE, INDEX, ROOM.
+pub fn write_piece(fields: Fields, packet: &[u8], k: usize, output: &mut [u8]) -> Outcome
+    ensures { λ r. ⌜ meaning r ≡ answer (send fields (now (packet .entry)) k (length (now (output .entry)))) ⌝ }
+    ensures { λ _. ⌜ now (output .exit) ≡ after (send fields (now (packet .entry)) k (length (now (output .entry)))) (now (output .entry)) ⌝ }
+{
+    if !fields.in_range() {
+        return Outcome::Refused(Refusal::Field);
+    }
+    let format = fields.format();
+    let n = packet.len();
+    if n > format.packet_limit() {
+        return Outcome::Refused(Refusal::Size);
+    }
+    let z = format.piece_size();
+    let count = count_of(z, n);
+    if k >= count {
+        return Outcome::Refused(Refusal::Index);
+    }
+    let flag = flag_at(count, k);
+    let number = number_at(format, k);
+    let bytes = bytes_at(z, packet, k);
+    place(fields, flag, number, bytes, output)
 }

@@ -1,5 +1,5 @@
 use borrow.Author.Needs.{needs}
-use Prim.Native.Nat.{_*_, _<_, _≤_}
+use Prim.Native.Nat.{_-_, _*_, _<_, _≤_}
 use mathlib.Core.Path.{sym, _∙_}
 use native.Mathlib.Omega.{arith}
 use native.Mathlib.Nat.{add-sub-cancel-left}
@@ -46,7 +46,7 @@ part-result-end c = search needs
 returns-2 : tie.Need-returns-2
 returns-2 c =
     let a = c .before .before .before .args in
-    take-all _ (drop (a .z * a .k) (a .packet .now)) (rw length-drop (omega arith))
+    take-all (length (a .packet .now) - a .z * a .k) (drop (a .z * a .k) (a .packet .now)) (rw length-drop (omega arith))
     ∙ sym (bytes-last (a .z) (a .packet .now) (a .k) (c .before .before .if1 .left) (c .before .if2 .taken))
 
 -- src/lib.rt:77:14

@@ -1,4 +1,5 @@
 use borrow.Author.Needs.{needs}
+use Rattle.packet.proofs.Writing.{then}
 use Rattle.packet.proofs.put.Statement.{statement}
 use Rattle.packet.proofs.put.Tie as tie
 use Rattle.packet.proofs.put.Reads as reads
@@ -19,7 +20,9 @@ same-length c = search needs
 
 -- src/lib.rt:104:1
 returns : tie.Need-returns
-returns c = ?
+returns c =
+    let a = c .before .before .before .before .before .before .before .before .before .before .before .args in
+    rw (c .before .before .copy-in2 .ensures, c .before .before .before .before .before .before .copy-in .ensures) (then (a .head .now) (a .bytes .now) (a .output .now))
 
 pub put-spec : {M : Type 1} → statement M
 put-spec = tie.close (tie.spec copy-in-requires copy-in-requires-2 same-length returns)

@@ -1,0 +1,21 @@
+-- What the private parts of the code promise each other. No public contract cites it.
+use Prim.Native.Nat.{ℕ}
+use mathlib.Core.Path.{_≡_}
+use mathlib.Core.List.{List, [], _∷_}
+use lib.Dec.{leb}
+use lib.ListN.{length}
+use Rattle.format.specs.declared.Outcome.{Outcome}
+use Rattle.format.specs.declared.Refusal.the-variants.{Room}
+use Rattle.format.specs.Refusals.{Result, check, guarded, meaning}
+use Rattle.frame.specs.Judge.{Frame}
+use Rattle.frame.specs.Image.{imageOf}
+use Rattle.packet.specs.Send.{answer, after}
+
+-- a frame's image, for an output of `room` bytes
+unfoldable pub placed : Frame → ℕ → Result (List ℕ)
+placed frame room = guarded (check Room (leb (length (imageOf frame)) room) ∷ []) (imageOf frame)
+
+-- r is the answer to placing a frame, and last the output afterwards
+pub record Placed (frame : Frame) (output : List ℕ) (r : Outcome) (last : List ℕ) : Type 0 where
+  pub answers : meaning r ≡ answer (placed frame (length output))
+  pub leaves : last ≡ after (placed frame (length output)) output
