@@ -2,3 +2,5 @@ pub mod Counts
 mod Writing
 mod Placing
 mod Sending
+pub mod Pieces
+mod Examples

@@ -1,3 +1,5 @@
 pub mod Split
 pub mod Send
+pub mod Claims
+pub mod Examples
 pub mod Parts

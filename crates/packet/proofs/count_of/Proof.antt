@@ -1,4 +1,4 @@
-use borrow.Author.Tests.{le-leb, le-ltb, lt-leb, lt-ltb}
+use borrow.Author.Tests.{le-leb, lt-leb}
 use Rattle.packet.specs.Split.{pieceCount}
 use borrow.Author.Needs.{needs}
 use Rattle.packet.proofs.count_of.Statement.{statement}
@@ -9,7 +9,7 @@ use Rattle.packet.proofs.count_of.Lts as lts
 -- src/lib.rt:22:9
 returns : tie.Need-returns
 unfolding pieceCount
-returns c = simp (le-ltb _ _ (c .if1 .taken), le-leb _ _ (c .if1 .taken))
+returns c = simp (le-leb _ _ (c .if1 .taken))
 
 -- src/lib.rt:24:11
 sub-result : tie.Need-sub-result
@@ -26,7 +26,7 @@ div-result c = search needs
 -- src/lib.rt:17:1
 returns-2 : tie.Need-returns-2
 unfolding pieceCount
-returns-2 c = simp (lt-leb _ _ (c .if1 .left), lt-ltb _ _ (c .if1 .left))
+returns-2 c = simp (lt-leb _ _ (c .if1 .left))
 
 pub count-of-spec : {M : Type 1} → statement M
 count-of-spec = tie.close (tie.spec returns sub-result add-result div-result returns-2)
