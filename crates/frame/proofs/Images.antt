@@ -22,9 +22,9 @@ use Rattle.format.specs.Refusals.{Result, value, guarded}
 use Rattle.format.proofs.Tests.{each, from-each, tests}
 use Rattle.format.proofs.Checks.{pass, none-left, Passed, passed}
 use Rattle.frame.specs.declared.Layout.{Layout}
-use Rattle.frame.specs.Layout.{flagOf, packetStart, layout}
+use Rattle.frame.specs.Layout.{flagBits, flagOf, packetStart, layout}
 use Rattle.frame.specs.Judge.{Frame, Judged, pieceRule, checks, readBy, judge}
-use Rattle.frame.specs.Image.{flagBits, header, imageOf, soundFrame}
+use Rattle.frame.specs.Image.{header, imageOf, soundFrame}
 use Rattle.frame.specs.Claims.{Bytes, ImageIsJudged, IsImage, JudgedIsImage, OneImage}
 use Rattle.frame.proofs.Flags.{bits-small, flag-of-bits, bits-of-flag}
 

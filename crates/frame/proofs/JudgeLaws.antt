@@ -61,14 +61,17 @@ module _ (format : Format) (image : List ℕ) (said : Layout) (e : said ≡ layo
       f : said .fixed ≡ true
       f = not-false (said .fixed) formed
 
-      pub remote : (said .rtr ≡ 0 → ⊥) → refused 3 ≡ judge format image
+      pub remote : not (eqb (said .rtr) 0) ≡ true → refused 3 ≡ judge format image
       unfolding checks
-      remote r = judged (pass Length _ _ sized (pass Form _ _ f (stop Remote _ _ (ne-eqb _ _ r))))
+      remote r = judged (pass Length _ _ sized (pass Form _ _ f (stop Remote _ _ (not-true (eqb (said .rtr) 0) r))))
 
-      module _ (r : said .rtr ≡ 0) where
+      module _ (present : not (eqb (said .rtr) 0) ≡ false) where
+        r : eqb (said .rtr) 0 ≡ true
+        r = not-false (eqb (said .rtr) 0) present
+
         miscounted : all (leb (said .count) 8 ∷ eqb (length image) (headerSize format + said .count) ∷ []) ≡ false → refused 4 ≡ judge format image
         unfolding checks
-        miscounted c = judged (pass Length _ _ sized (pass Form _ _ f (pass Remote _ _ (eq-eqb _ _ r) (stop Count _ _ c))))
+        miscounted c = judged (pass Length _ _ sized (pass Form _ _ f (pass Remote _ _ r (stop Count _ _ c))))
 
         pub over-eight : 8 < said .count → refused 4 ≡ judge format image
         over-eight c = miscounted (first-fails _ _ (lt-leb _ _ c))
@@ -87,11 +90,11 @@ module _ (format : Format) (image : List ℕ) (said : Layout) (e : said ≡ layo
             unfolding checks
             unruled p =
                 judged
-                (pass Length _ _ sized (pass Form _ _ f (pass Remote _ _ (eq-eqb _ _ r) (pass Count _ _ counted (stop Piece _ _ (sym er ∙ not-true rule p))))))
+                (pass Length _ _ sized (pass Form _ _ f (pass Remote _ _ r (pass Count _ _ counted (stop Piece _ _ (sym er ∙ not-true rule p))))))
 
             pub ruled : not rule ≡ false → value (readBy said image) ≡ judge format image
             unfolding checks
             ruled p =
                 judged
                 (pass Length _ _ sized
-                (pass Form _ _ f (pass Remote _ _ (eq-eqb _ _ r) (pass Count _ _ counted (pass Piece _ _ (sym er ∙ not-false rule p) (none-left _))))))
+                (pass Form _ _ f (pass Remote _ _ r (pass Count _ _ counted (pass Piece _ _ (sym er ∙ not-false rule p) (none-left _))))))

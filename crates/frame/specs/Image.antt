@@ -8,17 +8,10 @@ use Rattle.format.specs.declared.Fields.{Fields}
 use Rattle.format.specs.declared.Fields.the-variants.{Extended, Standard}
 use Rattle.format.specs.declared.Format.{Format}
 use Rattle.format.specs.declared.Flag.{Flag}
-use Rattle.format.specs.declared.Flag.the-variants.{Middle, Start, End, Single}
 use Rattle.format.specs.Tests.{all}
 use Rattle.format.specs.Formats.{formatOf, numberRange, numbered, inRange}
+use Rattle.frame.specs.Layout.{flagBits}
 use Rattle.frame.specs.Judge.{Frame, pieceRule}
-
--- "Flags: 01 start, 00 middle, 10 end, 11 single."
-abbrev pub flagBits : Flag → ℕ
-flagBits Start = 1
-flagBits Middle = 0
-flagBits End = 2
-flagBits Single = 3
 
 -- the data bytes: in a standard start, middle or end piece the number, then the packet bytes
 abbrev pub dataOf : Frame → List ℕ

@@ -62,7 +62,7 @@ readAs fields flag number start image =
 abbrev pub readBy : Layout → List ℕ → Judged
 readBy said image = readAs (said .fields) (said .flag) (said .number) (said .start) image
 
--- "LENGTH of an image is judged before any bit": it comes first, and no check before it looks at the layout
+-- "LENGTH of an image is judged before any bit": it is the first check, and looks at no bit
 unfoldable pub judge : Format → List ℕ → Result Judged
 judge format image =
     guarded (checks format (length image) (layout format image)) (readBy (layout format image) image)

@@ -14,8 +14,16 @@ use Rattle.format.specs.Formats.{headerSize, numbered}
 use Rattle.frame.specs.declared.Layout.{Layout}
 
 -- "Flags: 01 start, 00 middle, 10 end, 11 single."
+abbrev pub flagBits : Flag → ℕ
+flagBits Start = 1
+flagBits Middle = 0
+flagBits End = 2
+flagBits Single = 3
+
+-- the flag that two bits are
 unfoldable pub flagOf : ℕ → Flag
-flagOf bits = cond (eqb bits 0) Middle (cond (eqb bits 1) Start (cond (eqb bits 2) End Single))
+flagOf bits =
+    cond (eqb bits (flagBits Start)) Start (cond (eqb bits (flagBits Middle)) Middle (cond (eqb bits (flagBits End)) End Single))
 
 -- where in an image the packet bytes begin: after the header and, in a standard start, middle or end piece, the number. They
 -- run to its end

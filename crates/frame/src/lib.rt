@@ -46,11 +46,11 @@ fn wide(x: u8) -> usize
 fn flag_of(bits: u8) -> Flag
     ensures { λ r. ⌜ r ≡ flagOf bits ⌝ }
 {
-    if bits == 0 {
-        return Flag::Middle;
-    }
     if bits == 1 {
         return Flag::Start;
+    }
+    if bits == 0 {
+        return Flag::Middle;
     }
     if bits == 2 {
         return Flag::End;
@@ -192,11 +192,12 @@ pub fn judge(format: Format, image: &[u8]) -> Verdict
         return Verdict::Refused(Refusal::Length);
     }
     let l = layout_of(format, image);
-    let fixed = l.fixed;
-    if !fixed {
+    let formed = l.fixed;
+    let present = l.rtr == 0;
+    if !formed {
         return Verdict::Refused(Refusal::Form);
     }
-    if l.rtr != 0 {
+    if !present {
         return Verdict::Refused(Refusal::Remote);
     }
     let count = l.count;

@@ -51,12 +51,12 @@ module _ (priority source group destination function : ℕ) (flag : Flag) (numbe
 
   pub extended-has-room : 5 + length bytes ≤ length output
       → (head last : List ℕ) → head ≡ header (Extended priority source group destination function) flag number (length bytes)
-      → last ≡ over (head ++ bytes) output
+      → last ≡ over (take 5 head ++ bytes) output
       → Placed (frameOf (Extended priority source group destination function) flag number bytes) output (Value (5 + length bytes)) last
-  unfolding extended imageOf
+  unfolding extended imageOf header
   extended-has-room h head last e w =
       has-room extended output (imageOf extended) refl (5 + length bytes) extended-size h last
-      (w ∙ ap (λ (x : List ℕ). over (x ++ bytes) output) e)
+      (w ∙ ap (λ (x : List ℕ). over (take 5 x ++ bytes) output) e)
 
 module _ (priority address side : ℕ) (flag : Flag) (number : ℕ) (bytes output : List ℕ) (b : Bool) (eb : b ≡ numbered format.Standard flag) (count : ℕ) (ec : count ≡ cond b (length bytes + 1) (length bytes)) where
   standard : Frame
@@ -83,40 +83,36 @@ module _ (priority address side : ℕ) (flag : Flag) (number : ℕ) (bytes outpu
       go true e = omega arith
       go false e = omega arith
 
-  -- what of the header goes before the packet bytes fits
-  module _ (h : 2 + count ≤ length output) (head : List ℕ) (e : head ≡ header (Standard priority address side) flag number count ++ (number ∷ [])) where
-    pub fits-numbered : b ≡ true → length head + length bytes ≤ length output
+  pub count-numbered : b ≡ true → count ≡ length bytes + 1
+  count-numbered t = rw t at ec
+
+  pub count-plain : b ≡ false → count ≡ length bytes
+  count-plain t = rw t at ec
+
+  module _ (head : List ℕ) (e : head ≡ header (Standard priority address side) flag number count ++ (number ∷ [])) where
+    pub head-three : length head ≡ 3
     unfolding header
-    fits-numbered t = let n : count ≡ length bytes + 1 = rw t at ec in rw e (omega arith)
+    head-three = ap length e
 
-    pub two : 2 ≡ length (take 2 head)
-    unfolding header
-    two = rw e
-
-    pub fits-plain : b ≡ false → length (take 2 head) + length bytes ≤ length output
-    fits-plain t = let n : count ≡ length bytes = rw t at ec in omega (arith, two)
-
-  module _ (h : 2 + count ≤ length output) (head : List ℕ) (e : head ≡ header (Standard priority address side) flag number count ++ (number ∷ [])) (last : List ℕ) where
-    numbered-image : b ≡ true → head ++ bytes ≡ imageOf standard
+    numbered-image : b ≡ true → take 3 head ++ bytes ≡ imageOf standard
     unfolding standard imageOf header
-    numbered-image t =
-        let n : count ≡ suc (length bytes) = rw (t, add-one) at ec in
-        rw (e, ← eb, t, n)
+    numbered-image t = let n : count ≡ suc (length bytes) = rw add-one at (count-numbered t) in rw (e, ← eb, t, n)
 
     plain-image : b ≡ false → take 2 head ++ bytes ≡ imageOf standard
     unfolding standard imageOf header
-    plain-image t = let n : count ≡ length bytes = rw t at ec in rw (e, ← eb, t, n)
+    plain-image t = rw (e, ← eb, t, count-plain t)
 
-    pub standard-numbered : b ≡ true → last ≡ over (head ++ bytes) output
-        → Placed (frameOf (Standard priority address side) flag number bytes) output (Value (2 + count)) last
-    unfolding standard
-    standard-numbered t w =
-        has-room standard output (imageOf standard) refl (2 + count) standard-size h last
-        (w ∙ ap (λ (x : List ℕ). over x output) (numbered-image t))
+    module _ (h : 2 + count ≤ length output) (last : List ℕ) where
+      pub standard-numbered : b ≡ true → last ≡ over (take 3 head ++ bytes) output
+          → Placed (frameOf (Standard priority address side) flag number bytes) output (Value (2 + count)) last
+      unfolding standard
+      standard-numbered t w =
+          has-room standard output (imageOf standard) refl (2 + count) standard-size h last
+          (w ∙ ap (λ (x : List ℕ). over x output) (numbered-image t))
 
-    pub standard-plain : b ≡ false → last ≡ over (take 2 head ++ bytes) output
-        → Placed (frameOf (Standard priority address side) flag number bytes) output (Value (2 + count)) last
-    unfolding standard
-    standard-plain t w =
-        has-room standard output (imageOf standard) refl (2 + count) standard-size h last
-        (w ∙ ap (λ (x : List ℕ). over x output) (plain-image t))
+      pub standard-plain : b ≡ false → last ≡ over (take 2 head ++ bytes) output
+          → Placed (frameOf (Standard priority address side) flag number bytes) output (Value (2 + count)) last
+      unfolding standard
+      standard-plain t w =
+          has-room standard output (imageOf standard) refl (2 + count) standard-size h last
+          (w ∙ ap (λ (x : List ℕ). over x output) (plain-image t))

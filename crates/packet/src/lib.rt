@@ -10,11 +10,12 @@ ghost use mathlib.Core.Path.{_≡_};
 ghost use mathlib.Core.Bool.{true, cond};
 ghost use mathlib.Core.List.{[], _∷_, _++_};
 ghost use Prim.Native.Nat.{_+_, _*_, _%_, _≤_, _<_};
-ghost use lib.ListN.{length};
+ghost use lib.ListN.{length, take};
 ghost use lib.Seq.{paste};
 ghost use Rattle.format.specs.Formats.{numberRange, formatOf, inRange};
 ghost use Rattle.format.specs.Refusals.{meaning};
-ghost use Rattle.frame.specs.Image.{flagBits, header, imageOf};
+ghost use Rattle.frame.specs.Layout.{flagBits};
+ghost use Rattle.frame.specs.Image.{header, imageOf};
 ghost use Rattle.packet.specs.Split.{pieceCount, pieceFlag, pieceBytes, frameOf};
 ghost use Rattle.packet.specs.Send.{countOf, send, answer, over, after};
 ghost use Rattle.packet.specs.Parts.{Placed};
@@ -30,15 +31,15 @@ fn count_of(z: usize, n: usize) -> usize
     (n + (z - 1)) / z
 }
 
-// The number of pieces of a packet of n bytes, or SIZE.
-pub fn piece_count(format: Format, n: usize) -> Outcome
-    ensures { λ r. ⌜ meaning r ≡ countOf format n ⌝ }
+// The number of pieces of a packet of that size, or SIZE.
+pub fn piece_count(format: Format, size: usize) -> Outcome
+    ensures { λ r. ⌜ meaning r ≡ countOf format size ⌝ }
 {
-    if n > format.packet_limit() {
+    if size > format.packet_limit() {
         return Outcome::Refused(Refusal::Size);
     }
     let z = format.piece_size();
-    let count = count_of(z, n);
+    let count = count_of(z, size);
     Outcome::Value(count)
 }
 
@@ -95,25 +96,25 @@ fn flag_bits(flag: Flag) -> u8
     }
 }
 
-fn copy_in(output: &mut [u8], at: usize, bytes: &[u8])
-    requires { ⌜ at + length (now bytes) ≤ length (now output) ⌝ }
-    ensures { λ _. ⌜ now (output .exit) ≡ paste (now (output .entry)) at (now (bytes .entry)) (length (now (bytes .entry))) ⌝ }
+// Writes the first n of bytes over the output from at on.
+fn copy_in(output: &mut [u8], at: usize, bytes: &[u8], n: usize)
+    requires { ⌜ (n ≤ length (now bytes)) × (at + n ≤ length (now output)) ⌝ }
+    ensures { λ _. ⌜ now (output .exit) ≡ paste (now (output .entry)) at (now (bytes .entry)) n ⌝ }
 {
     let mut j = 0;
-    while j < bytes.len() {
+    while j < n {
         output[at + j] = bytes[j];
         j += 1;
     }
 }
 
-// Writes head and then bytes over the output from its start.
-fn put(head: &[u8], bytes: &[u8], output: &mut [u8])
-    requires { ⌜ length (now head) + length (now bytes) ≤ length (now output) ⌝ }
-    ensures { λ _. ⌜ now (output .exit) ≡ over (now (head .entry) ++ now (bytes .entry)) (now (output .entry)) ⌝ }
+// Writes the first m of head and then bytes over the output from its start.
+fn put(head: &[u8], m: usize, bytes: &[u8], output: &mut [u8])
+    requires { ⌜ (m ≤ length (now head)) × (m + length (now bytes) ≤ length (now output)) ⌝ }
+    ensures { λ _. ⌜ now (output .exit) ≡ over (take m (now (head .entry)) ++ now (bytes .entry)) (now (output .entry)) ⌝ }
 {
-    copy_in(output, 0, head);
-    let at = head.len();
-    copy_in(output, at, bytes);
+    copy_in(output, 0, head, m);
+    copy_in(output, m, bytes, bytes.len());
 }
 
 fn header_extended(
@@ -197,7 +198,7 @@ fn place_extended(
         number,
         count,
     );
-    put(&head, bytes, output);
+    put(&head, 5, bytes, output);
     Outcome::Value(size)
 }
 
@@ -223,10 +224,10 @@ fn place_standard(
     let count = n as u8;
     let head = header_standard(priority, address, side, flag, number, count);
     if numbered {
-        put(&head, bytes, output);
+        put(&head, 3, bytes, output);
         return Outcome::Value(size);
     }
-    put(&head[..2], bytes, output);
+    put(&head, 2, bytes, output);
     Outcome::Value(size)
 }
 

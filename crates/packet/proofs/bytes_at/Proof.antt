@@ -28,15 +28,15 @@ mul-from c = record { fits = omega (arith, inside (c .before) (c .if1 .left)) }
 
 -- src/lib.rt:74:8
 sub-if2 : tie.Need-sub-if2
-sub-if2 c = inside (c .before) (c .if1 .left)
+sub-if2 c = omega (arith, inside (c .before) (c .if1 .left))
 
 -- src/lib.rt:75:16
 sub-result : tie.Need-sub-result
-sub-result c = inside (c .before .before) (c .before .if1 .left)
+sub-result c = omega (arith, inside (c .before .before) (c .before .if1 .left))
 
 -- src/lib.rt:75:16
 part-result-start : tie.Need-part-result-start
-part-result-start c = inside (c .before .before) (c .before .if1 .left)
+part-result-start c = omega (arith, inside (c .before .before) (c .before .if1 .left))
 
 -- src/lib.rt:75:16
 part-result-end : tie.Need-part-result-end

@@ -12,10 +12,10 @@ use Rattle.packet.proofs.copy_in.Reads as reads
 use Rattle.packet.proofs.copy_in.Lts as lts
 
 abbrev Inv-loop : tie.InvT-loop
-Inv-loop output₀ at bytes j₀ output j = (j ≤ length bytes) × (output ≡ paste output₀ at bytes j) × (length output ≡ length output₀)
+Inv-loop output₀ at bytes n j₀ output j = (j ≤ n) × (output ≡ paste output₀ at bytes j) × (length output ≡ length output₀)
 
 abbrev μ-loop : tie.MeasureT-loop
-μ-loop output₀ at bytes j₀ output j = length bytes - j
+μ-loop output₀ at bytes n j₀ output j = n - j
 
 -- src/lib.rt:13:5
 loop-holds : tie.Need-loop-holds Inv-loop μ-loop
@@ -60,7 +60,7 @@ same-length c = search needs
 returns : tie.Need-returns Inv-loop μ-loop
 returns c =
     let a = c .before in
-    let e : a .loop .j ≡ length (a .before .args .bytes .now) = le-antisymm (a .loop .inv .0) (c .loop-test .left) in
+    let e : a .loop .j ≡ a .before .args .n = le-antisymm (a .loop .inv .0) (c .loop-test .left) in
     rw (a .loop .inv .1, e)
 
 pub copy-in-spec : {M : Type 1} → statement M

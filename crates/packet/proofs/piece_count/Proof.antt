@@ -27,7 +27,7 @@ returns : tie.Need-returns
 unfolding countOf
 returns c =
     let a = c .before .before .args in
-    let h : packetLimit (a .format) < a .n = rw (c .before .packet-limit .ensures) at (c .if1 .taken) in
+    let h : packetLimit (a .format) < a .size = rw (c .before .packet-limit .ensures) at (c .if1 .taken) in
     stop Size _ _ (lt-leb _ _ h)
 
 -- src/lib.rt:34:9
@@ -47,8 +47,8 @@ returns-2 : tie.Need-returns-2
 unfolding countOf
 returns-2 c =
     let a = c .before .before .before .before .args in
-    let h : a .n ≤ packetLimit (a .format) = rw (c .before .before .before .packet-limit .ensures) at (c .before .before .if1 .left) in
-    ap value (c .count-of .ensures ∙ ap (λ (z : ℕ). pieceCount z (a .n)) (c .before .piece-size .ensures))
+    let h : a .size ≤ packetLimit (a .format) = rw (c .before .before .before .packet-limit .ensures) at (c .before .before .if1 .left) in
+    ap value (c .count-of .ensures ∙ ap (λ (z : ℕ). pieceCount z (a .size)) (c .before .piece-size .ensures))
     ∙ pass Size _ _ (le-leb _ _ h) (none-left _)
 
 pub piece-count-spec : {M : Type 1} → statement M

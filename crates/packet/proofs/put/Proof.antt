@@ -22,7 +22,7 @@ same-length c = search needs
 returns : tie.Need-returns
 returns c =
     let a = c .before .before .before .before .before .before .before .before .before .before .before .args in
-    rw (c .before .before .copy-in2 .ensures, c .before .before .before .before .before .before .copy-in .ensures) (then (a .head .now) (a .bytes .now) (a .output .now))
+    rw (c .before .before .copy-in2 .ensures, c .before .before .before .before .before .before .copy-in .ensures) (then (a .head .now) (a .bytes .now) (a .output .now) (a .m) (c .before .before .before .before .before .before .before .before .before .before .before .pre .0))
 
 pub put-spec : {M : Type 1} → statement M
 put-spec = tie.close (tie.spec copy-in-requires copy-in-requires-2 same-length returns)

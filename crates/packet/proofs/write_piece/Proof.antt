@@ -1,4 +1,5 @@
 use borrow.Author.Needs.{needs}
+use native.Mathlib.Omega.{arith}
 use Rattle.packet.proofs.Sending.{bad-field, bad-size, sized, bad-index, cut, ready, whole}
 use Rattle.packet.proofs.write_piece.Statement.{statement}
 use Rattle.packet.proofs.write_piece.Tie as tie
@@ -36,7 +37,7 @@ packet-limit-requires c κs = search needs
 returns-2 : tie.Need-returns-2
 returns-2 c =
     let a = c .before .before .before .before .before .before .before .args in
-    bad-size (a .fields) (a .packet .now) (a .k) (a .output .now) _ (c .before .before .before .before .in-range .ensures) (c .before .before .before .if1 .left) _ (c .before .before .format .ensures) _ (c .before .packet-limit .ensures) (c .if2 .taken)
+    bad-size (a .fields) (a .packet .now) (a .k) (a .output .now) _ (c .before .before .before .before .in-range .ensures) (c .before .before .before .if1 .left) _ (c .before .before .format .ensures) _ (c .before .packet-limit .ensures) (omega arith)
 
 -- src/lib.rt:242:9
 piece-size-requires : tie.Need-piece-size-requires
@@ -52,7 +53,7 @@ count-of-requires c κs =
 returns-3 : tie.Need-returns-3
 returns-3 c =
     let a = c .before .before .before .before .before .before .before .before .before .before .args in
-    bad-index (a .fields) (a .packet .now) (a .k) (a .output .now) _ (c .before .before .before .before .before .before .before .in-range .ensures) (c .before .before .before .before .before .before .if1 .left) _ (c .before .before .before .before .before .format .ensures) _ (c .before .before .before .before .packet-limit .ensures) (c .before .before .before .if2 .left) _ (c .before .before .piece-size .ensures) _ (c .before .count-of .ensures) (c .if3 .taken)
+    bad-index (a .fields) (a .packet .now) (a .k) (a .output .now) _ (c .before .before .before .before .before .before .before .in-range .ensures) (c .before .before .before .before .before .before .if1 .left) _ (c .before .before .before .before .before .format .ensures) _ (c .before .before .before .before .packet-limit .ensures) (c .before .before .before .if2 .left) _ (c .before .before .piece-size .ensures) _ (c .before .count-of .ensures) (omega arith)
 
 -- src/lib.rt:247:9
 flag-at-requires : tie.Need-flag-at-requires
