@@ -3,23 +3,29 @@ use Prim.Native.Nat.{ℕ, suc, _+_, _≤_, _<_}
 use mathlib.Core.Path.{_≡_, refl, sym, ap, _∙_}
 use mathlib.Core.Bool.{Bool, true, false, cond}
 use mathlib.Core.List.{List, [], _∷_, _++_}
+use native.Mathlib.Nat.{add-zero}
 use native.Mathlib.Numerals.{add-one}
 use native.Mathlib.Omega.{arith}
-use lib.ListN.{length, take}
+use lib.Dec.{leb}
+use lib.ListN.{length, take, length-append}
+use lib.Seq.{length-take-le}
 use borrow.Author.Tests.{le-leb, lt-leb}
+use Rattle.format.specs.declared.Fields.{Fields}
 use Rattle.format.specs.declared.Fields.the-variants.{Extended, Standard}
-use Rattle.format.specs.declared.Format.the-variants as format
+use Rattle.format.specs.declared.Format.{Format}
+use Rattle.format.specs.declared.Format.the-variants as formats
 use Rattle.format.specs.declared.Flag.{Flag}
 use Rattle.format.specs.declared.Outcome.the-variants.{Value, Refused}
 use Rattle.format.specs.declared.Refusal.the-variants.{Room}
-use Rattle.format.specs.Formats.{numbered}
+use Rattle.format.specs.Formats.{headerSize, numberRange, numbered, formatOf, inRange}
 use Rattle.format.specs.Refusals.{Result, value, refused}
+use Rattle.format.proofs.Tests.{Each, each}
 use Rattle.format.proofs.Checks.{stop, pass, none-left}
 use Rattle.frame.specs.Judge.{Frame}
 use Rattle.frame.specs.Image.{header, imageOf}
 use Rattle.packet.specs.Split.{frameOf}
 use Rattle.packet.specs.Send.{over}
-use Rattle.packet.specs.Parts.{placed, Placed}
+use Rattle.packet.specs.Parts.{filler, placed, Placed}
 
 module _ (frame : Frame) (output image : List ℕ) (e : imageOf frame ≡ image) (size : ℕ) (es : length image ≡ size) where
   pub no-room : length output < size → Placed frame output (Refused Room) output
@@ -36,83 +42,74 @@ module _ (frame : Frame) (output image : List ℕ) (e : imageOf frame ≡ image)
       let p : placed frame (length output) ≡ value (imageOf frame) = sym (pass Room _ _ (le-leb _ _ m) (none-left _)) in
       record { answers = rw (p, e, es); leaves = rw (p, e) w }
 
--- the image as the code puts it together
-module _ (priority source group destination function : ℕ) (flag : Flag) (number : ℕ) (bytes output : List ℕ) where
-  extended : Frame
-  extended = frameOf (Extended priority source group destination function) flag number bytes
+-- what fields in range say of each field, and of the number
+pub extended-range : (fields : Fields) (p q g d f n : ℕ) → fields ≡ Extended p q g d f → inRange fields ≡ true → n < numberRange (formatOf fields)
+    → Each (leb p 3 ∷ leb q 63 ∷ leb g 3 ∷ leb d 63 ∷ leb f 31 ∷ []) × (n < 64)
+unfolding inRange
+extended-range fields p q g d f n e h m = (each _ (rw e at h), rw e at m)
 
-  extended-size : length (imageOf extended) ≡ 5 + length bytes
-  unfolding extended imageOf header
-  extended-size = omega arith
+pub standard-range : (fields : Fields) (p q s : ℕ) → fields ≡ Standard p q s → inRange fields ≡ true
+    → Each (leb p 3 ∷ leb q 63 ∷ leb s 1 ∷ [])
+unfolding inRange
+standard-range fields p q s e h = each _ (rw e at h)
 
-  pub extended-no-room : length output < 5 + length bytes → Placed (frameOf (Extended priority source group destination function) flag number bytes) output (Refused Room) output
-  unfolding extended
-  extended-no-room h = no-room extended output (imageOf extended) refl (5 + length bytes) extended-size h
+-- the image as the code puts it together: so much of the header's six bytes, then the packet bytes
+module _ (flag : Flag) (number : ℕ) (bytes : List ℕ) where
+  led : (fields : Fields) (b : Bool) → numbered (formatOf fields) flag ≡ b
+      → take (headerSize (formatOf fields) + cond b 1 0) (header fields flag number (length bytes + cond b 1 0) ++ filler fields number) ++ bytes
+      ≡ imageOf (frameOf fields flag number bytes)
+  unfolding header filler imageOf
+  led (Extended priority source group destination function) true e = let z : _≡_ {A = ℕ} 0 1 = cc in absurd (omega arith)
+  led (Extended priority source group destination function) false e = rw add-zero
+  led (Standard priority address side) true e = rw (e, add-one)
+  led (Standard priority address side) false e = rw (e, add-zero)
 
-  pub extended-has-room : 5 + length bytes ≤ length output
-      → (head last : List ℕ) → head ≡ header (Extended priority source group destination function) flag number (length bytes)
-      → last ≡ over (take 5 head ++ bytes) output
-      → Placed (frameOf (Extended priority source group destination function) flag number bytes) output (Value (5 + length bytes)) last
-  unfolding extended imageOf header
-  extended-has-room h head last e w =
-      has-room extended output (imageOf extended) refl (5 + length bytes) extended-size h last
-      (w ∙ ap (λ (x : List ℕ). over (take 5 x ++ bytes) output) e)
+  six : (fields : Fields) (n count : ℕ) → length (header fields flag n count ++ filler fields n) ≡ 6
+  unfolding header filler
+  six (Extended priority source group destination function) n count = refl
+  six (Standard priority address side) n count = refl
 
-module _ (priority address side : ℕ) (flag : Flag) (number : ℕ) (bytes output : List ℕ) (b : Bool) (eb : b ≡ numbered format.Standard flag) (count : ℕ) (ec : count ≡ cond b (length bytes + 1) (length bytes)) where
-  standard : Frame
-  standard = frameOf (Standard priority address side) flag number bytes
-
-  size-if : (x : Bool) → length (header (Standard priority address side) flag number (length (cond x (number ∷ bytes) bytes)) ++ cond x (number ∷ bytes) bytes) ≡ 2 + cond x (length bytes + 1) (length bytes)
-  unfolding header
-  size-if true = omega arith
-  size-if false = omega arith
-
-  standard-size : length (imageOf standard) ≡ 2 + count
-  unfolding standard imageOf
-  standard-size = rw (ec, ← eb) (size-if b)
-
-  pub standard-no-room : length output < 2 + count → Placed (frameOf (Standard priority address side) flag number bytes) output (Refused Room) output
-  unfolding standard
-  standard-no-room h = no-room standard output (imageOf standard) refl (2 + count) standard-size h
-
-  -- at most eight bytes, and a number perhaps
-  pub count-small : length bytes ≤ 8 → count ≤ 9
-  count-small h = go b ec
+-- what the code has at hand: the format, the byte more that a number takes, and the header's size
+module _ (fields : Fields) (flag : Flag) (number : ℕ) (bytes output : List ℕ) (format : Format) (ef : format ≡ formatOf fields) (b : Bool) (eb : b ≡ numbered format flag) (extra : ℕ) (ex : extra ≡ cond b 1 0) (size : ℕ) (es : size ≡ headerSize format) where
+  pub at-most-one : extra ≤ 1
+  at-most-one = go b ex
     where
-      go : (x : Bool) → count ≡ cond x (length bytes + 1) (length bytes) → count ≤ 9
+      go : (x : Bool) → extra ≡ cond x 1 0 → extra ≤ 1
       go true e = omega arith
       go false e = omega arith
 
-  pub count-numbered : b ≡ true → count ≡ length bytes + 1
-  count-numbered t = rw t at ec
+  pub at-most-five : size ≤ 5
+  at-most-five = go format es
+    where
+      go : (f : Format) → size ≡ headerSize f → size ≤ 5
+      go formats.Extended e = omega arith
+      go formats.Standard e = omega arith
 
-  pub count-plain : b ≡ false → count ≡ length bytes
-  count-plain t = rw t at ec
+  isNumbered : numbered (formatOf fields) flag ≡ b
+  isNumbered = sym (eb ∙ ap (λ (f : Format). numbered f flag) ef)
 
-  module _ (head : List ℕ) (e : head ≡ header (Standard priority address side) flag number count ++ (number ∷ [])) where
-    pub head-three : length head ≡ 3
-    unfolding header
-    head-three = ap length e
+  -- the image is the head, as far as it goes, and the packet bytes
+  module _ (head : List ℕ) (eh : head ≡ header fields flag number (length bytes + extra) ++ filler fields number) where
+    pub head-six : length head ≡ 6
+    head-six = ap length eh ∙ six flag number bytes fields number (length bytes + extra)
 
-    numbered-image : b ≡ true → take 3 head ++ bytes ≡ imageOf standard
-    unfolding standard imageOf header
-    numbered-image t = let n : count ≡ suc (length bytes) = rw add-one at (count-numbered t) in rw (e, ← eb, t, n)
+    whole-image : imageOf (frameOf fields flag number bytes) ≡ take (size + extra) head ++ bytes
+    whole-image = rw (eh, es, ef, ex) (sym (led flag number bytes fields b isNumbered))
 
-    plain-image : b ≡ false → take 2 head ++ bytes ≡ imageOf standard
-    unfolding standard imageOf header
-    plain-image t = rw (e, ← eb, t, count-plain t)
+    image-size : length (take (size + extra) head ++ bytes) ≡ size + extra + length bytes
+    image-size =
+        let one = at-most-one in
+        let five = at-most-five in
+        let s = head-six in
+        let l : length (take (size + extra) head) ≡ size + extra = length-take-le (size + extra) head (omega arith) in
+        length-append (take (size + extra) head) bytes ∙ ap (λ (n : ℕ). n + length bytes) l
 
-    module _ (h : 2 + count ≤ length output) (last : List ℕ) where
-      pub standard-numbered : b ≡ true → last ≡ over (take 3 head ++ bytes) output
-          → Placed (frameOf (Standard priority address side) flag number bytes) output (Value (2 + count)) last
-      unfolding standard
-      standard-numbered t w =
-          has-room standard output (imageOf standard) refl (2 + count) standard-size h last
-          (w ∙ ap (λ (x : List ℕ). over x output) (numbered-image t))
+    pub put-room : size + extra + length bytes ≤ length output → (last : List ℕ) → last ≡ over (take (size + extra) head ++ bytes) output
+        → Placed (frameOf fields flag number bytes) output (Value (size + extra + length bytes)) last
+    put-room h last w =
+        has-room (frameOf fields flag number bytes) output (take (size + extra) head ++ bytes) whole-image (size + extra + length bytes) image-size h last w
 
-      pub standard-plain : b ≡ false → last ≡ over (take 2 head ++ bytes) output
-          → Placed (frameOf (Standard priority address side) flag number bytes) output (Value (2 + count)) last
-      unfolding standard
-      standard-plain t w =
-          has-room standard output (imageOf standard) refl (2 + count) standard-size h last
-          (w ∙ ap (λ (x : List ℕ). over x output) (plain-image t))
+  pub short-room : length output < size + extra + length bytes → Placed (frameOf fields flag number bytes) output (Refused Room) output
+  short-room h =
+      let head = header fields flag number (length bytes + extra) ++ filler fields number in
+      no-room (frameOf fields flag number bytes) output (take (size + extra) head ++ bytes) (whole-image head refl) (size + extra + length bytes) (image-size head refl) h

@@ -4,12 +4,19 @@ use mathlib.Core.Path.{_≡_}
 use mathlib.Core.List.{List, [], _∷_}
 use lib.Dec.{leb}
 use lib.ListN.{length}
+use Rattle.format.specs.declared.Fields.{Fields}
+use Rattle.format.specs.declared.Fields.the-variants.{Extended, Standard}
 use Rattle.format.specs.declared.Outcome.{Outcome}
 use Rattle.format.specs.declared.Refusal.the-variants.{Room}
 use Rattle.format.specs.Refusals.{Result, check, guarded, meaning}
 use Rattle.frame.specs.Judge.{Frame}
 use Rattle.frame.specs.Image.{imageOf}
 use Rattle.packet.specs.Send.{answer, after}
+
+-- what stands after the header in the six bytes that hold it
+unfoldable pub filler : Fields → ℕ → List ℕ
+filler (Extended priority source group destination function) number = 0 ∷ []
+filler (Standard priority address side) number = number ∷ 0 ∷ 0 ∷ 0 ∷ []
 
 -- a frame's image, for an output of `room` bytes
 unfoldable pub placed : Frame → ℕ → Result (List ℕ)

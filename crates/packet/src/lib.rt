@@ -18,7 +18,7 @@ ghost use Rattle.frame.specs.Layout.{flagBits};
 ghost use Rattle.frame.specs.Image.{header, imageOf};
 ghost use Rattle.packet.specs.Split.{pieceCount, pieceFlag, pieceBytes, frameOf};
 ghost use Rattle.packet.specs.Send.{countOf, send, answer, over, after};
-ghost use Rattle.packet.specs.Parts.{Placed};
+ghost use Rattle.packet.specs.Parts.{filler, Placed};
 
 // The number of pieces, over the piece size z.
 fn count_of(z: usize, n: usize) -> usize
@@ -117,125 +117,12 @@ fn put(head: &[u8], m: usize, bytes: &[u8], output: &mut [u8])
     copy_in(output, m, bytes, bytes.len());
 }
 
-fn header_extended(
-    priority: u8,
-    source: u8,
-    group: u8,
-    destination: u8,
-    function: u8,
-    flag: Flag,
-    number: u8,
-    count: u8,
-) -> [u8; 5]
-    requires { ⌜ (inRange (Fields.Extended priority source group destination function) ≡ true) × (number < 64) × (count ≤ 8) ⌝ }
-    ensures { λ r. ⌜ r ≡ header (Fields.Extended priority source group destination function) flag number count ⌝ }
+// The header, after it the number for the pieces that have it among their data bytes, and zeros.
+fn header_of(fields: Fields, flag: Flag, number: u8, count: u8) -> [u8; 6]
+    requires { ⌜ (inRange fields ≡ true) × (number < numberRange (formatOf fields)) × (count ≤ 9) ⌝ }
+    ensures { λ r. ⌜ r ≡ header fields flag number count ++ filler fields number ⌝ }
 {
     let bits = flag_bits(flag);
-    [
-        128 + count,
-        64 * priority + source,
-        64 * group + destination,
-        64 * bits + number,
-        8 * function,
-    ]
-}
-
-// The header, and after it the number for the pieces that have one among their data bytes.
-fn header_standard(
-    priority: u8,
-    address: u8,
-    side: u8,
-    flag: Flag,
-    number: u8,
-    count: u8,
-) -> [u8; 3]
-    requires { ⌜ (inRange (Fields.Standard priority address side) ≡ true) × (count ≤ 9) ⌝ }
-    ensures { λ r. ⌜ r ≡ header (Fields.Standard priority address side) flag number count ++ (number ∷ []) ⌝ }
-{
-    let bits = flag_bits(flag);
-    [
-        64 * priority + address,
-        128 * side + 32 * bits + count,
-        number,
-    ]
-}
-
-fn data_count(numbered: bool, n: usize) -> usize
-    requires { ⌜ n ≤ 8 ⌝ }
-    ensures { λ r. ⌜ r ≡ cond numbered (n + 1) n ⌝ }
-{
-    if numbered { n + 1 } else { n }
-}
-
-// Writes the image of an extended frame, or refuses with ROOM.
-fn place_extended(
-    priority: u8,
-    source: u8,
-    group: u8,
-    destination: u8,
-    function: u8,
-    flag: Flag,
-    number: u8,
-    bytes: &[u8],
-    output: &mut [u8],
-) -> Outcome
-    requires { ⌜ (inRange (Fields.Extended priority source group destination function) ≡ true) × (number < 64) × (length (now bytes) ≤ 8) ⌝ }
-    ensures { λ r. ⌜ Placed (frameOf (Fields.Extended priority source group destination function) flag number (now (bytes .entry))) (now (output .entry)) r (now (output .exit)) ⌝ }
-{
-    let n = bytes.len();
-    let size = Extended::HEADER_SIZE + n;
-    if output.len() < size {
-        return Outcome::Refused(Refusal::Room);
-    }
-    let count = n as u8;
-    let head = header_extended(
-        priority,
-        source,
-        group,
-        destination,
-        function,
-        flag,
-        number,
-        count,
-    );
-    put(&head, 5, bytes, output);
-    Outcome::Value(size)
-}
-
-// Writes the image of a standard frame, or refuses with ROOM.
-fn place_standard(
-    priority: u8,
-    address: u8,
-    side: u8,
-    flag: Flag,
-    number: u8,
-    bytes: &[u8],
-    output: &mut [u8],
-) -> Outcome
-    requires { ⌜ (inRange (Fields.Standard priority address side) ≡ true) × (length (now bytes) ≤ 8) ⌝ }
-    ensures { λ r. ⌜ Placed (frameOf (Fields.Standard priority address side) flag number (now (bytes .entry))) (now (output .entry)) r (now (output .exit)) ⌝ }
-{
-    let numbered = Format::Standard.numbered(flag);
-    let n = data_count(numbered, bytes.len());
-    let size = Standard::HEADER_SIZE + n;
-    if output.len() < size {
-        return Outcome::Refused(Refusal::Room);
-    }
-    let count = n as u8;
-    let head = header_standard(priority, address, side, flag, number, count);
-    if numbered {
-        put(&head, 3, bytes, output);
-        return Outcome::Value(size);
-    }
-    put(&head, 2, bytes, output);
-    Outcome::Value(size)
-}
-
-// Writes the image of a frame, or refuses with ROOM.
-fn place(fields: Fields, flag: Flag, number: u8, bytes: &[u8], output: &mut [u8]) -> Outcome
-    requires { ⌜ (inRange fields ≡ true) × (number < numberRange (formatOf fields)) × (length (now bytes) ≤ 8) ⌝ }
-    ensures { λ r. ⌜ Placed (frameOf fields flag number (now (bytes .entry))) (now (output .entry)) r (now (output .exit)) ⌝ }
-{
     match fields {
         Fields::Extended {
             priority,
@@ -243,23 +130,51 @@ fn place(fields: Fields, flag: Flag, number: u8, bytes: &[u8], output: &mut [u8]
             group,
             destination,
             function,
-        } => place_extended(
-            priority,
-            source,
-            group,
-            destination,
-            function,
-            flag,
-            number,
-            bytes,
-            output,
-        ),
+        } => [
+            128 + count,
+            64 * priority + source,
+            64 * group + destination,
+            64 * bits + number,
+            8 * function,
+            0,
+        ],
         Fields::Standard {
             priority,
             address,
             side,
-        } => place_standard(priority, address, side, flag, number, bytes, output),
+        } => [
+            64 * priority + address,
+            128 * side + 32 * bits + count,
+            number,
+            0,
+            0,
+            0,
+        ],
     }
+}
+
+fn one_if(numbered: bool) -> usize
+    ensures { λ r. ⌜ r ≡ cond numbered 1 0 ⌝ }
+{
+    if numbered { 1 } else { 0 }
+}
+
+// Writes the image of a frame, or refuses with ROOM.
+fn place(fields: Fields, flag: Flag, number: u8, bytes: &[u8], output: &mut [u8]) -> Outcome
+    requires { ⌜ (inRange fields ≡ true) × (number < numberRange (formatOf fields)) × (length (now bytes) ≤ 8) ⌝ }
+    ensures { λ r. ⌜ Placed (frameOf fields flag number (now (bytes .entry))) (now (output .entry)) r (now (output .exit)) ⌝ }
+{
+    let format = fields.format();
+    let extra = one_if(format.numbered(flag));
+    let start = format.header_size() + extra;
+    let n = bytes.len();
+    let size = start + n;
+    if output.len() < size {
+        return Outcome::Refused(Refusal::Room);
+    }
+    let head = header_of(fields, flag, number, (n + extra) as u8);
+    put(&head, start, bytes, output);
+    Outcome::Value(size)
 }
 
 // Writes the image of piece k of a packet over the head of the output and answers its length, or
