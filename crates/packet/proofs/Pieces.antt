@@ -3,11 +3,11 @@ use Prim.Native.Nat.{ℕ, zero, suc, _+_, _-_, _*_, _/_, _%_, _≤_, _<_, min}
 use mathlib.Core.Path.{_≡_, refl, sym, ap, _∙_}
 use mathlib.Core.Bool.{Bool, true, false, cond, not, _||_}
 use mathlib.Core.List.{List, [], _∷_, _++_, append-nil}
-use native.Mathlib.Nat.{mul-suc, mul-zero, mod-lt}
+use native.Mathlib.Nat.{zero-add, add-zero, mul-suc, mul-zero, mod-lt}
 use native.Mathlib.Numerals.{add-one}
 use native.Mathlib.Omega.{arith}
 use lib.Dec.{leb, ltb, eqb}
-use lib.ListN.{length, take, drop, length-take, length-drop, take-append-drop, drop-of-length-le}
+use lib.ListN.{length, take, drop, getD, length-take, length-drop, take-append-drop, drop-of-length-le}
 use lib.Seq.{drop-drop}
 use borrow.Author.Tests.{leb-true, leb-false, eqb-true, eqb-false, le-leb, lt-leb, lt-ltb, eq-eqb, ne-eqb}
 use Rattle.format.specs.declared.Format.{Format}
@@ -59,6 +59,13 @@ module _ (fields : Fields) (packet : List ℕ) where
   unfolding piecesFrom
   count-pieces zero k = refl
   count-pieces (suc n) k = ap suc (count-pieces n (suc k))
+
+  pub nth-piece : (n k j : ℕ) → j < n → (other : Frame) → getD (piecesFrom fields packet k n) j other ≡ piece fields packet (k + j)
+  unfolding piecesFrom
+  nth-piece zero k j h other = absurd (omega arith)
+  nth-piece (suc n) k zero h other = rw add-zero
+  nth-piece (suc n) k (suc j) h other =
+      let s : suc k + j ≡ k + suc j = omega arith in nth-piece n (suc k) j (omega arith) other ∙ ap (piece fields packet) s
 
   module _ (long : 8 < length packet) where
     rest : (n k : ℕ) → k + n ≡ pieceCount (pieceSize (formatOf fields)) (length packet)
@@ -187,6 +194,12 @@ module _ (fields : Fields) (packet : List ℕ) (range : inRange fields ≡ true)
   unfolding pieces
   count = count-pieces fields packet (pieceCount (pieceSize (formatOf fields)) (length packet)) 0
 
+  listed-piece : (k : ℕ) → k < length (pieces fields packet) → (other : Frame) → getD (pieces fields packet) k other ≡ piece fields packet k
+  unfolding pieces
+  listed-piece k h other =
+      let i : k < pieceCount (pieceSize (formatOf fields)) (length packet) = rw count at h in
+      nth-piece fields packet (pieceCount (pieceSize (formatOf fields)) (length packet)) 0 k i other ∙ ap (piece fields packet) (zero-add k)
+
   sound-piece : (k : ℕ) → k < length (pieces fields packet) → soundFrame (piece fields packet k) ≡ true
   unfolding soundFrame piece Ruled
   sound-piece k h =
@@ -239,6 +252,7 @@ splitting fields packet range small =
     record {
       counted = counted-pieces fields packet range small;
       few = rw (count fields packet range small) (few-pieces (formatOf fields) (length packet) small);
+      listed = listed-piece fields packet range small;
       sound = sound-piece fields packet range small;
       of-packet = own-fields fields packet range small;
       judged = judged-piece fields packet range small;

@@ -3,7 +3,7 @@ use Prim.Native.Nat.{ℕ, _+_, _≤_, _<_}
 use mathlib.Core.Path.{_≡_}
 use mathlib.Core.Bool.{true}
 use mathlib.Core.List.{List, [], _∷_, _++_}
-use lib.ListN.{length}
+use lib.ListN.{length, getD}
 use Rattle.format.specs.declared.Fields.{Fields}
 use Rattle.format.specs.Formats.{packetLimit, pieceSize, formatOf, inRange}
 use Rattle.format.specs.Refusals.{value}
@@ -22,6 +22,8 @@ pub record IsSplit (fields : Fields) (packet : List ℕ) : Type 0 where
   -- there are exactly as many pieces as the count says, at most 256
   pub counted : countOf (formatOf fields) (length packet) ≡ value (length (pieces fields packet))
   pub few : length (pieces fields packet) ≤ 256
+  -- piece k is the k-th of them
+  pub listed : (k : ℕ) → k < length (pieces fields packet) → (other : Frame) → getD (pieces fields packet) k other ≡ piece fields packet k
   -- each is a sound frame of the packet's fields
   pub sound : (k : ℕ) → k < length (pieces fields packet) → soundFrame (piece fields packet k) ≡ true
   pub of-packet : (k : ℕ) → piece fields packet k .fields ≡ fields
