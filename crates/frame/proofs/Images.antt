@@ -1,11 +1,10 @@
 -- The image of a frame is judged to be that frame, and an image that is judged sound is the image of its frame.
-use Prim.Native.Nat.{ℕ, zero, suc, _+_, _-_, _*_, _/_, _%_, _≤_, _<_}
+use Prim.Native.Nat.{ℕ, _+_, _-_, _*_, _/_, _%_, _≤_, _<_}
 use mathlib.Core.Path.{_≡_, refl, sym, ap, subst, _∙_}
 use mathlib.Core.Bool.{Bool, true, false, cond}
-use mathlib.Core.List.{List, [], _∷_, _++_}
+use mathlib.Core.List.{List, _∷_}
 use native.Mathlib.Nat.{div-add-mod', div-div-eq-div-mul}
 use native.Mathlib.Omega.{arith}
-use lib.Dec.{leb, ltb, eqb}
 use lib.ListN.{length, getD, drop, length-drop}
 use lib.Seq.{drop-cons}
 use borrow.Author.Tests.{eqb-true, eq-eqb, lt-ltb}
@@ -16,14 +15,12 @@ use Rattle.format.specs.declared.Fields.the-variants.{Extended, Standard}
 use Rattle.format.specs.declared.Flag.{Flag}
 use Rattle.format.specs.declared.Flag.the-variants.{Middle, Start, End, Single}
 use Rattle.format.specs.declared.Refusal.the-variants.{Length, Form, Remote, Count, Piece}
-use Rattle.format.specs.Tests.{all}
-use Rattle.format.specs.Formats.{headerSize, formatOf, numbered, inRange}
-use Rattle.format.specs.Refusals.{Result, value, guarded}
+use Rattle.format.specs.Formats.{formatOf, numbered, inRange}
+use Rattle.format.specs.Refusals.{value}
 use Rattle.format.proofs.Tests.{each, from-each, tests}
 use Rattle.format.proofs.Checks.{pass, none-left, Passed, passed}
-use Rattle.frame.specs.declared.Layout.{Layout}
 use Rattle.frame.specs.Layout.{flagBits, flagOf, packetStart, layout}
-use Rattle.frame.specs.Judge.{Frame, Judged, pieceRule, checks, readBy, judge}
+use Rattle.frame.specs.Judge.{pieceRule, checks, readBy, judge}
 use Rattle.frame.specs.Image.{header, imageOf, soundFrame}
 use Rattle.frame.specs.Claims.{Bytes, ImageIsJudged, IsImage, JudgedIsImage, OneImage}
 use Rattle.frame.proofs.Flags.{bits-small, flag-of-bits, bits-of-flag}

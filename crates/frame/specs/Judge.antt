@@ -1,6 +1,6 @@
 -- Document 01, "Frame images", the piece rules, and "Refusal numbers" 1 to 5 in their order: what an image is judged to be.
 use Prim.Native.Nat.{ℕ, _+_}
-use mathlib.Core.Bool.{Bool, true, not, _||_}
+use mathlib.Core.Bool.{Bool, not, _||_}
 use mathlib.Core.List.{List, [], _∷_}
 use lib.Dec.{leb, eqb}
 use lib.ListN.{length, drop}
@@ -14,7 +14,6 @@ use Rattle.format.specs.Tests.{all}
 use Rattle.format.specs.Formats.{headerSize}
 use Rattle.format.specs.Refusals.{Result, value, refused, Check, check, guarded, number}
 use Rattle.frame.specs.declared.Layout.{Layout}
-use Rattle.frame.specs.declared.Head.{Head}
 use Rattle.frame.specs.declared.Verdict.{Verdict}
 use Rattle.frame.specs.declared.Verdict.the-variants.{Sound, Refused}
 use Rattle.frame.specs.Layout.{layout}

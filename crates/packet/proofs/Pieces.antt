@@ -1,15 +1,14 @@
 -- The pieces of a packet: how many, how filled, and that they are sound frames which hold the packet.
-use Prim.Native.Nat.{ℕ, zero, suc, _+_, _-_, _*_, _/_, _%_, _≤_, _<_, min}
+use Prim.Native.Nat.{ℕ, zero, suc, _+_, _-_, _*_, _%_, _≤_, _<_, min}
 use mathlib.Core.Path.{_≡_, refl, sym, ap, _∙_}
 use mathlib.Core.Bool.{Bool, true, false, cond, not, _||_}
-use mathlib.Core.List.{List, [], _∷_, _++_, append-nil}
+use mathlib.Core.List.{List, _∷_, append-nil}
 use native.Mathlib.Nat.{zero-add, add-zero, mul-suc, mul-zero, mod-lt}
-use native.Mathlib.Numerals.{add-one}
 use native.Mathlib.Omega.{arith}
-use lib.Dec.{leb, ltb, eqb}
-use lib.ListN.{length, take, drop, getD, length-take, length-drop, take-append-drop, drop-of-length-le}
+use lib.Dec.{leb, eqb}
+use lib.ListN.{length, drop, getD, length-take, length-drop, take-append-drop, drop-of-length-le}
 use lib.Seq.{drop-drop}
-use borrow.Author.Tests.{leb-true, leb-false, eqb-true, eqb-false, le-leb, lt-leb, lt-ltb, eq-eqb, ne-eqb}
+use borrow.Author.Tests.{leb-true, leb-false, eqb-true, eqb-false, le-leb, lt-ltb, ne-eqb}
 use Rattle.format.specs.declared.Format.{Format}
 use Rattle.format.specs.declared.Format.the-variants as format
 use Rattle.format.specs.declared.Fields.{Fields}
@@ -18,7 +17,7 @@ use Rattle.format.specs.declared.Flag.the-variants.{Middle, Start, End, Single}
 use Rattle.format.specs.declared.Refusal.the-variants.{Size}
 use Rattle.format.specs.Formats.{packetLimit, pieceSize, numberRange, numbered, formatOf, inRange}
 use Rattle.format.specs.Refusals.{value}
-use Rattle.format.proofs.Tests.{each, from-each, tests}
+use Rattle.format.proofs.Tests.{from-each, tests}
 use Rattle.format.proofs.Checks.{pass, none-left}
 use Rattle.format.proofs.Limits.{some-bytes, eight-bytes, some-numbers}
 use Rattle.frame.specs.Layout.{packetStart}
@@ -28,7 +27,7 @@ use Rattle.frame.specs.Claims.{ImageIsJudged}
 use Rattle.frame.proofs.Images.{image-is-judged}
 use Rattle.packet.specs.Split.{pieceCount, pieceFlag, pieceBytes, piece, piecesFrom, pieces}
 use Rattle.packet.specs.Send.{countOf}
-use Rattle.packet.specs.Claims.{joined, IsSplit, Splitting}
+use Rattle.packet.specs.Claims.{joined, Splitting}
 use Rattle.packet.proofs.Counts.{Several, several, bytes-single, bytes-several}
 
 -- ---- how many bytes a piece carries, over the piece size z

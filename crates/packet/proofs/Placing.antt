@@ -1,5 +1,5 @@
 -- A frame's image, written or refused with ROOM.
-use Prim.Native.Nat.{ℕ, suc, _+_, _≤_, _<_}
+use Prim.Native.Nat.{ℕ, _+_, _≤_, _<_}
 use mathlib.Core.Path.{_≡_, refl, sym, ap, _∙_}
 use mathlib.Core.Bool.{Bool, true, false, cond}
 use mathlib.Core.List.{List, [], _∷_, _++_}
@@ -18,7 +18,7 @@ use Rattle.format.specs.declared.Flag.{Flag}
 use Rattle.format.specs.declared.Outcome.the-variants.{Value, Refused}
 use Rattle.format.specs.declared.Refusal.the-variants.{Room}
 use Rattle.format.specs.Formats.{headerSize, numberRange, numbered, formatOf, inRange}
-use Rattle.format.specs.Refusals.{Result, value, refused}
+use Rattle.format.specs.Refusals.{value, refused}
 use Rattle.format.proofs.Tests.{Each, each}
 use Rattle.format.proofs.Checks.{stop, pass, none-left}
 use Rattle.frame.specs.Judge.{Frame}

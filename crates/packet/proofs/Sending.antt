@@ -1,25 +1,24 @@
 -- The checks of sending, one after the other, for the code that makes them.
-use Prim.Native.Nat.{ℕ, _+_, _%_, _≤_, _<_, min}
-use mathlib.Core.Path.{_≡_, refl, sym, ap, _∙_}
+use Prim.Native.Nat.{ℕ, _%_, _≤_, _<_}
+use mathlib.Core.Path.{_≡_, refl, sym, _∙_}
 use mathlib.Core.Bool.{Bool, true, false, not}
-use mathlib.Core.List.{List, [], _∷_}
+use mathlib.Core.List.{List}
 use native.Mathlib.Nat.{mod-lt}
 use native.Mathlib.Omega.{arith}
 use lib.Dec.{leb, ltb}
-use lib.ListN.{length, take, drop, length-take}
+use lib.ListN.{length, length-take}
 use borrow.Author.Tests.{leb-true, leb-false, le-leb, lt-leb, lt-ltb, le-ltb, not-true, not-false}
 use Rattle.format.specs.declared.Fields.{Fields}
 use Rattle.format.specs.declared.Format.{Format}
 use Rattle.format.specs.declared.Flag.{Flag}
 use Rattle.format.specs.declared.Outcome.{Outcome}
-use Rattle.format.specs.declared.Outcome.the-variants.{Value, Refused}
+use Rattle.format.specs.declared.Outcome.the-variants.{Refused}
 use Rattle.format.specs.declared.Refusal.{Refusal}
-use Rattle.format.specs.declared.Refusal.the-variants.{Field, Size, Index, Room}
+use Rattle.format.specs.declared.Refusal.the-variants.{Field, Size, Index}
 use Rattle.format.specs.Formats.{packetLimit, pieceSize, numberRange, formatOf, inRange}
-use Rattle.format.specs.Refusals.{Result, value, refused, number, meaning}
-use Rattle.format.proofs.Checks.{stop, pass, none-left}
+use Rattle.format.specs.Refusals.{refused, number, meaning}
+use Rattle.format.proofs.Checks.{stop, pass}
 use Rattle.format.proofs.Limits.{some-bytes, eight-bytes, most-bytes, some-numbers}
-use Rattle.frame.specs.Image.{imageOf}
 use Rattle.packet.specs.Split.{pieceCount, pieceFlag, pieceBytes, frameOf, piece}
 use Rattle.packet.specs.Send.{send, answer, after}
 use Rattle.packet.specs.Parts.{placed, Placed}

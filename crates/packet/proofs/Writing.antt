@@ -1,7 +1,7 @@
 -- Bytes written one after the other.
 use Prim.Native.Nat.{ℕ, _+_, _≤_}
 use mathlib.Core.Path.{_≡_, sym, ap, _∙_}
-use mathlib.Core.List.{List, [], _++_, append-assoc}
+use mathlib.Core.List.{List, _++_}
 use native.Mathlib.Nat.{zero-add}
 use lib.ListN.{length, take, drop, length-append}
 use lib.Seq.{paste, take-length, length-take-le, take-at, drop-append-add, drop-drop}

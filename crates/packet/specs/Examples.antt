@@ -9,7 +9,7 @@ use Rattle.format.specs.declared.Format.the-variants.{Extended, Standard}
 use Rattle.format.specs.declared.Fields.{Fields}
 use Rattle.format.specs.declared.Fields.the-variants as fields
 use Rattle.format.specs.declared.Flag.{Flag}
-use Rattle.format.specs.declared.Flag.the-variants.{Middle, Start, End, Single}
+use Rattle.format.specs.declared.Flag.the-variants.{End, Single}
 use Rattle.format.specs.declared.Refusal.the-variants.{Length, Form, Remote, Count, Piece, Size}
 use Rattle.format.specs.Refusals.{Result, value, refused, number}
 use Rattle.frame.specs.Judge.{Judged, judge}
