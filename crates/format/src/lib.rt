@@ -1,7 +1,7 @@
 // The two frame formats of GB/T 43671-2024: their limits, their identifier fields, the flags of
 // their pieces, and the refusals that all calls share.
 ghost use mathlib.Core.Path.{_≡_};
-ghost use Rattle.format.specs.Formats.{packetLimit, pieceSize, headerSize, numberRange, numbered, formatOf, inRange};
+ghost use Rattle.format.specs.Formats.{packetLimit, pieceSize, headerSize, numberRange, flagBits, numbered, packetStart, formatOf, inRange};
 ghost use Rattle.format.specs.Refusals.{number};
 
 // The extended format, with 29-bit identifiers.
@@ -90,6 +90,16 @@ impl Format {
             },
         }
     }
+
+    // Where in the image of such a piece its packet bytes begin; they run to the image's end.
+    pub fn packet_start(self, flag: Flag) -> usize
+        ensures { λ r. ⌜ r ≡ packetStart self flag ⌝ }
+    {
+        if self.numbered(flag) {
+            return self.header_size() + 1;
+        }
+        self.header_size()
+    }
 }
 
 // The identifier's fields, but for the flag and the number, which belong to a piece.
@@ -160,6 +170,20 @@ pub enum Flag {
     Start,
     End,
     Single,
+}
+
+impl Flag {
+    // The two bits of the flag in an image.
+    pub fn bits(self) -> u8
+        ensures { λ r. ⌜ r ≡ flagBits self ⌝ }
+    {
+        match self {
+            Flag::Middle => 0,
+            Flag::Start => 1,
+            Flag::End => 2,
+            Flag::Single => 3,
+        }
+    }
 }
 
 // Why a call refused; document 01's name for each number, in the order of the numbers.

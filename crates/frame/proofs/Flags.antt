@@ -4,7 +4,8 @@ use mathlib.Core.Path.{_≡_, refl}
 use native.Mathlib.Omega.{arith}
 use Rattle.format.specs.declared.Flag.{Flag}
 use Rattle.format.specs.declared.Flag.the-variants.{Middle, Start, End, Single}
-use Rattle.frame.specs.Layout.{flagBits, flagOf}
+use Rattle.format.specs.Formats.{flagBits}
+use Rattle.frame.specs.Layout.{flagOf}
 
 pub bits-small : (flag : Flag) → flagBits flag ≤ 3
 bits-small Middle = omega arith

@@ -15,11 +15,11 @@ use Rattle.format.specs.declared.Fields.the-variants.{Extended, Standard}
 use Rattle.format.specs.declared.Flag.{Flag}
 use Rattle.format.specs.declared.Flag.the-variants.{Middle, Start, End, Single}
 use Rattle.format.specs.declared.Refusal.the-variants.{Length, Form, Remote, Count, Piece}
-use Rattle.format.specs.Formats.{formatOf, numbered, inRange}
+use Rattle.format.specs.Formats.{formatOf, numbered, inRange, flagBits, packetStart}
 use Rattle.format.specs.Refusals.{value}
 use Rattle.format.proofs.Tests.{each, from-each, tests}
 use Rattle.format.proofs.Checks.{pass, none-left, Passed, passed}
-use Rattle.frame.specs.Layout.{flagBits, flagOf, packetStart, layout}
+use Rattle.frame.specs.Layout.{flagOf, layout}
 use Rattle.frame.specs.Judge.{pieceRule, checks, readBy, judge}
 use Rattle.frame.specs.Image.{header, imageOf, soundFrame}
 use Rattle.frame.specs.Claims.{Bytes, ImageIsJudged, IsImage, JudgedIsImage, OneImage}

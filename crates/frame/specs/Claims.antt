@@ -5,9 +5,8 @@ use mathlib.Core.Bool.{true}
 use mathlib.Core.List.{List}
 use lib.ListN.{length, getD, drop}
 use Rattle.format.specs.declared.Format.{Format}
-use Rattle.format.specs.Formats.{formatOf}
+use Rattle.format.specs.Formats.{formatOf, packetStart}
 use Rattle.format.specs.Refusals.{value}
-use Rattle.frame.specs.Layout.{packetStart}
 use Rattle.frame.specs.Judge.{Frame, Judged, judge}
 use Rattle.frame.specs.Image.{imageOf, soundFrame}
 

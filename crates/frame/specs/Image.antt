@@ -9,8 +9,7 @@ use Rattle.format.specs.declared.Fields.the-variants.{Extended, Standard}
 use Rattle.format.specs.declared.Format.{Format}
 use Rattle.format.specs.declared.Flag.{Flag}
 use Rattle.format.specs.Tests.{all}
-use Rattle.format.specs.Formats.{formatOf, numberRange, numbered, inRange}
-use Rattle.frame.specs.Layout.{flagBits}
+use Rattle.format.specs.Formats.{formatOf, numberRange, numbered, inRange, flagBits}
 use Rattle.frame.specs.Judge.{Frame, pieceRule}
 
 -- the data bytes: in a standard start, middle or end piece the number, then the packet bytes

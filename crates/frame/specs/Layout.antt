@@ -1,5 +1,5 @@
 -- Document 01, "Frame images": what stands where in the two images, "bits high first", and what each flag means.
-use Prim.Native.Nat.{ℕ, _+_, _/_, _%_}
+use Prim.Native.Nat.{ℕ, _/_, _%_}
 use mathlib.Core.Bool.{true, cond}
 use mathlib.Core.List.{List, [], _∷_}
 use lib.Dec.{eqb}
@@ -10,25 +10,13 @@ use Rattle.format.specs.declared.Fields.the-variants as fields
 use Rattle.format.specs.declared.Flag.{Flag}
 use Rattle.format.specs.declared.Flag.the-variants.{Middle, Start, End, Single}
 use Rattle.format.specs.Tests.{all}
-use Rattle.format.specs.Formats.{headerSize, numbered}
+use Rattle.format.specs.Formats.{flagBits, numbered, packetStart}
 use Rattle.frame.specs.declared.Layout.{Layout}
-
--- "Flags: 01 start, 00 middle, 10 end, 11 single."
-abbrev pub flagBits : Flag → ℕ
-flagBits Start = 1
-flagBits Middle = 0
-flagBits End = 2
-flagBits Single = 3
 
 -- the flag that two bits are
 unfoldable pub flagOf : ℕ → Flag
 flagOf bits =
     cond (eqb bits (flagBits Start)) Start (cond (eqb bits (flagBits Middle)) Middle (cond (eqb bits (flagBits End)) End Single))
-
--- where in an image the packet bytes begin: after the header and, in a standard start, middle or end piece, the number. They
--- run to its end
-abbrev pub packetStart : Format → Flag → ℕ
-packetStart format flag = cond (numbered format flag) (headerSize format + 1) (headerSize format)
 
 -- Extended: byte 0: 1, RTR, 0, 0, count (4 bits); byte 1: priority (2), source (6); byte 2: group (2), destination (6);
 -- byte 3: flag (2), number (6); byte 4: function (5), 000; then the data bytes.

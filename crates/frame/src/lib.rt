@@ -4,10 +4,9 @@ use format::Fields;
 use format::Flag;
 use format::Format;
 use format::Refusal;
-use format::Standard;
 ghost use mathlib.Core.Path.{_≡_};
 ghost use mathlib.Core.Bool.{cond};
-ghost use Prim.Native.Nat.{_+_, _≤_};
+ghost use Prim.Native.Nat.{_≤_};
 ghost use lib.ListN.{length, getD};
 ghost use Rattle.format.specs.Formats.{headerSize};
 ghost use Rattle.frame.specs.Layout.{flagOf, layout};
@@ -59,7 +58,7 @@ fn flag_of(bits: u8) -> Flag
 }
 
 fn layout_extended(image: &[u8]) -> Layout
-    requires { ⌜ 5 ≤ length (now image) ⌝ }
+    requires { ⌜ headerSize Format.Extended ≤ length (now image) ⌝ }
     ensures { λ r. ⌜ r ≡ layout Format.Extended (now (image .entry)) ⌝ }
 {
     let b0 = image[0];
@@ -99,15 +98,8 @@ fn number_if(numbered: bool, first: u8) -> u8
     if numbered { first } else { 0 }
 }
 
-fn start_if(numbered: bool, header: usize) -> usize
-    requires { ⌜ header ≤ 5 ⌝ }
-    ensures { λ r. ⌜ r ≡ cond numbered (header + 1) header ⌝ }
-{
-    if numbered { header + 1 } else { header }
-}
-
 fn layout_standard(image: &[u8]) -> Layout
-    requires { ⌜ 2 ≤ length (now image) ⌝ }
+    requires { ⌜ headerSize Format.Standard ≤ length (now image) ⌝ }
     ensures { λ r. ⌜ r ≡ layout Format.Standard (now (image .entry)) ⌝ }
 {
     let b0 = image[0];
@@ -116,7 +108,7 @@ fn layout_standard(image: &[u8]) -> Layout
     let numbered = Format::Standard.numbered(flag);
     let first = number_byte(image);
     let number = number_if(numbered, first);
-    let start = start_if(numbered, Standard::HEADER_SIZE);
+    let start = Format::Standard.packet_start(flag);
     let fields = Fields::Standard {
         priority: b0 / 64,
         address: b0 % 64,
@@ -193,11 +185,11 @@ pub fn judge(format: Format, image: &[u8]) -> Verdict
     }
     let l = layout_of(format, image);
     let formed = l.fixed;
-    let present = l.rtr == 0;
+    let data_frame = l.rtr == 0;
     if !formed {
         return Verdict::Refused(Refusal::Form);
     }
-    if !present {
+    if !data_frame {
         return Verdict::Refused(Refusal::Remote);
     }
     let count = l.count;

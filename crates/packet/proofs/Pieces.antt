@@ -15,12 +15,11 @@ use Rattle.format.specs.declared.Fields.{Fields}
 use Rattle.format.specs.declared.Flag.{Flag}
 use Rattle.format.specs.declared.Flag.the-variants.{Middle, Start, End, Single}
 use Rattle.format.specs.declared.Refusal.the-variants.{Size}
-use Rattle.format.specs.Formats.{packetLimit, pieceSize, numberRange, numbered, formatOf, inRange}
+use Rattle.format.specs.Formats.{packetLimit, pieceSize, numberRange, numbered, formatOf, inRange, packetStart}
 use Rattle.format.specs.Refusals.{value}
 use Rattle.format.proofs.Tests.{from-each, tests}
 use Rattle.format.proofs.Checks.{pass, none-left}
 use Rattle.format.proofs.Limits.{some-bytes, eight-bytes, some-numbers}
-use Rattle.frame.specs.Layout.{packetStart}
 use Rattle.frame.specs.Judge.{Frame, pieceRule, judge}
 use Rattle.frame.specs.Image.{imageOf, soundFrame}
 use Rattle.frame.specs.Claims.{ImageIsJudged}

@@ -5,9 +5,8 @@ use mathlib.Core.Bool.{true}
 use mathlib.Core.List.{List, [], _∷_, _++_}
 use lib.ListN.{length, getD}
 use Rattle.format.specs.declared.Fields.{Fields}
-use Rattle.format.specs.Formats.{packetLimit, pieceSize, formatOf, inRange}
+use Rattle.format.specs.Formats.{packetLimit, pieceSize, formatOf, inRange, packetStart}
 use Rattle.format.specs.Refusals.{value}
-use Rattle.frame.specs.Layout.{packetStart}
 use Rattle.frame.specs.Judge.{Frame, judge}
 use Rattle.frame.specs.Image.{imageOf, soundFrame}
 use Rattle.packet.specs.Split.{piece, pieces}

@@ -1,20 +1,17 @@
 // Splitting: the pieces of a packet, as frame images.
-use format::Extended;
 use format::Fields;
 use format::Flag;
 use format::Format;
 use format::Outcome;
 use format::Refusal;
-use format::Standard;
 ghost use mathlib.Core.Path.{_≡_};
-ghost use mathlib.Core.Bool.{true, cond};
+ghost use mathlib.Core.Bool.{true};
 ghost use mathlib.Core.List.{_++_};
 ghost use Prim.Native.Nat.{_+_, _*_, _%_, _≤_, _<_};
 ghost use lib.ListN.{length, take};
 ghost use lib.Seq.{paste};
 ghost use Rattle.format.specs.Formats.{numberRange, formatOf, inRange};
 ghost use Rattle.format.specs.Refusals.{meaning};
-ghost use Rattle.frame.specs.Layout.{flagBits};
 ghost use Rattle.frame.specs.Image.{header};
 ghost use Rattle.packet.specs.Split.{pieceCount, pieceFlag, pieceBytes, frameOf};
 ghost use Rattle.packet.specs.Send.{countOf, send, answer, over, after};
@@ -59,13 +56,12 @@ fn flag_at(count: usize, k: usize) -> Flag
     Flag::Middle
 }
 
-fn number_at(format: Format, k: usize) -> u8
-    ensures { λ r. ⌜ r ≡ k % numberRange format ⌝ }
+// The number of piece k, over the number range.
+fn number_at(range: usize, k: usize) -> u8
+    requires { ⌜ (0 < range) × (range ≤ 256) ⌝ }
+    ensures { λ r. ⌜ r ≡ k % range ⌝ }
 {
-    match format {
-        Format::Extended => (k % Extended::NUMBER_RANGE) as u8,
-        Format::Standard => (k % Standard::NUMBER_RANGE) as u8,
-    }
+    (k % range) as u8
 }
 
 // The packet bytes of piece k, over the piece size z.
@@ -83,17 +79,6 @@ fn bytes_at(z: usize, packet: &[u8], k: usize) -> &[u8]
     }
     let to = from + z;
     &packet[from..to]
-}
-
-fn flag_bits(flag: Flag) -> u8
-    ensures { λ r. ⌜ r ≡ flagBits flag ⌝ }
-{
-    match flag {
-        Flag::Middle => 0,
-        Flag::Start => 1,
-        Flag::End => 2,
-        Flag::Single => 3,
-    }
 }
 
 // Writes the first n of bytes over the output from at on.
@@ -122,7 +107,7 @@ fn header_of(fields: Fields, flag: Flag, number: u8, count: u8) -> [u8; 6]
     requires { ⌜ (inRange fields ≡ true) × (number < numberRange (formatOf fields)) × (count ≤ 9) ⌝ }
     ensures { λ r. ⌜ r ≡ header fields flag number count ++ filler fields number ⌝ }
 {
-    let bits = flag_bits(flag);
+    let bits = flag.bits();
     match fields {
         Fields::Extended {
             priority,
@@ -153,26 +138,19 @@ fn header_of(fields: Fields, flag: Flag, number: u8, count: u8) -> [u8; 6]
     }
 }
 
-fn one_if(numbered: bool) -> usize
-    ensures { λ r. ⌜ r ≡ cond numbered 1 0 ⌝ }
-{
-    if numbered { 1 } else { 0 }
-}
-
 // Writes the image of a frame, or refuses with ROOM.
 fn place(fields: Fields, flag: Flag, number: u8, bytes: &[u8], output: &mut [u8]) -> Outcome
     requires { ⌜ (inRange fields ≡ true) × (number < numberRange (formatOf fields)) × (length (now bytes) ≤ 8) ⌝ }
     ensures { λ r. ⌜ Placed (frameOf fields flag number (now (bytes .entry))) (now (output .entry)) r (now (output .exit)) ⌝ }
 {
     let format = fields.format();
-    let extra = one_if(format.numbered(flag));
-    let start = format.header_size() + extra;
-    let n = bytes.len();
-    let size = start + n;
+    let start = format.packet_start(flag);
+    let size = start + bytes.len();
     if output.len() < size {
         return Outcome::Refused(Refusal::Room);
     }
-    let head = header_of(fields, flag, number, (n + extra) as u8);
+    let count = size - format.header_size();
+    let head = header_of(fields, flag, number, count as u8);
     put(&head, start, bytes, output);
     Outcome::Value(size)
 }
@@ -197,7 +175,8 @@ pub fn write_piece(fields: Fields, packet: &[u8], k: usize, output: &mut [u8]) -
         return Outcome::Refused(Refusal::Index);
     }
     let flag = flag_at(count, k);
-    let number = number_at(format, k);
+    let range = format.number_range();
+    let number = number_at(range, k);
     let bytes = bytes_at(z, packet, k);
     place(fields, flag, number, bytes, output)
 }

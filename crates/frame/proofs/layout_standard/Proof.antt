@@ -8,7 +8,6 @@ use Rattle.format.proofs.Format.numbered.Reads as numbered-reads
 use Rattle.frame.proofs.flag_of.Reads as flag-of-reads
 use Rattle.frame.proofs.number_byte.Reads as number-byte-reads
 use Rattle.frame.proofs.number_if.Reads as number-if-reads
-use Rattle.frame.proofs.start_if.Reads as start-if-reads
 
 -- src/lib.rt:113:14
 shared-slice-read-b0 : tie.Need-shared-slice-read-b0
@@ -35,13 +34,13 @@ number-if-requires : tie.Need-number-if-requires
 number-if-requires c κs = search needs
 
 -- src/lib.rt:119:9
-start-if-requires : tie.Need-start-if-requires
-start-if-requires c κs = search needs
+packet-start-requires : tie.Need-packet-start-requires
+packet-start-requires c κs = search needs
 
 -- src/lib.rt:109:1
 returns : tie.Need-returns
 unfolding layout
-returns c = simp (c .start-if .ensures, c .before .number-if .ensures, c .before .before .number-byte .ensures, c .before .before .before .numbered .ensures, c .before .before .before .before .flag-of .ensures)
+returns c = simp (c .packet-start .ensures, c .before .number-if .ensures, c .before .before .number-byte .ensures, c .before .before .before .numbered .ensures, c .before .before .before .before .flag-of .ensures)
 
 pub layout-standard-spec : {M : Type 1} → statement M
 layout-standard-spec =
@@ -53,5 +52,5 @@ layout-standard-spec =
     numbered-requires
     number-byte-requires
     number-if-requires
-    start-if-requires
+    packet-start-requires
     returns)

@@ -1,111 +1,138 @@
 use borrow.Author.Needs.{needs}
+use Prim.Native.Nat.{ℕ}
+use mathlib.Core.Path.{ap, _∙_}
+use mathlib.Core.List.{List}
 use native.Mathlib.Omega.{arith}
-use Rattle.packet.proofs.Placing.{at-most-one, at-most-five, head-six, put-room, short-room}
+use Rattle.format.specs.declared.Format.{Format}
+use Rattle.format.specs.Formats.{headerSize, packetStart}
+use Rattle.format.proofs.Limits.{five-bytes, start-near}
+use Rattle.packet.specs.Send.{over}
+use Rattle.packet.proofs.Placing.{no-room, has-room, image-size, image-led, head-six}
 use Rattle.packet.proofs.place.Statement.{statement}
 use Rattle.packet.proofs.place.Tie as tie
 use Rattle.packet.proofs.place.Reads as reads
 use Rattle.packet.proofs.place.Lts as lts
 use Rattle.format.proofs.Fields.format.Reads as format-reads
 use Rattle.format.proofs.Format.header_size.Reads as header-size-reads
-use Rattle.format.proofs.Format.numbered.Reads as numbered-reads
+use Rattle.format.proofs.Format.packet_start.Reads as packet-start-reads
 use Rattle.packet.proofs.header_of.Reads as header-of-reads
-use Rattle.packet.proofs.one_if.Reads as one-if-reads
 use Rattle.packet.proofs.put.Reads as put-reads
 
--- src/lib.rt:167:9
+-- src/lib.rt:146:9
 format-requires : tie.Need-format-requires
 format-requires c κs = search needs
 
--- src/lib.rt:168:24
-numbered-requires : tie.Need-numbered-requires
-numbered-requires c κs = search needs
+-- src/lib.rt:147:9
+packet-start-requires : tie.Need-packet-start-requires
+packet-start-requires c κs = search needs
 
--- src/lib.rt:168:9
-one-if-requires : tie.Need-one-if-requires
-one-if-requires c κs = search needs
+-- src/lib.rt:148:16
+add-size : tie.Need-add-size
+add-size c =
+    let c1 = c .before in
+    let c4 = c1 .before .before .before in
+    let a = c4 .args in
+    let near = start-near (c1 .format .result) (a .flag) in
+    let five = five-bytes (c1 .format .result) in
+    record { fits = omega (arith, c .packet-start .ensures) }
 
--- src/lib.rt:169:17
+-- src/lib.rt:150:9
+returns : tie.Need-returns
+returns c =
+    let c1 = c .before in
+    let c2 = c1 .before in
+    let c5 = c2 .before .before .before in
+    let a = c5 .args in
+    let starts = c1 .packet-start .ensures ∙ ap (λ (f : Format). packetStart f (a .flag)) (c2 .format .ensures) in
+    let sized = image-size (a .flag) (a .number) (a .bytes .now) (a .fields) _ starts in
+    no-room _ (a .output .now) _ sized (c .if1 .taken)
+
+-- src/lib.rt:152:24
 header-size-requires : tie.Need-header-size-requires
 header-size-requires c κs = search needs
 
--- src/lib.rt:169:17
-add-start : tie.Need-add-start
-add-start c =
-    let a = c .before .before .before .before .before .before .args in
-    let one = at-most-one (a .fields) (a .flag) (a .number) (a .bytes .now) (a .output .now) _ (c .before .before .before .format .ensures) _ (c .before .before .numbered .ensures) _ (c .before .one-if .ensures) _ (c .header-size .ensures) in
-    let five = at-most-five (a .fields) (a .flag) (a .number) (a .bytes .now) (a .output .now) _ (c .before .before .before .format .ensures) _ (c .before .before .numbered .ensures) _ (c .before .one-if .ensures) _ (c .header-size .ensures) in
-    record { fits = omega arith }
+-- src/lib.rt:152:17
+sub-count : tie.Need-sub-count
+sub-count c =
+    let c2 = c .before .before in
+    let c3 = c2 .before in
+    let c6 = c3 .before .before .before in
+    let a = c6 .args in
+    let near = start-near (c3 .format .result) (a .flag) in
+    omega (arith, c2 .packet-start .ensures, c .header-size .ensures)
 
--- src/lib.rt:171:16
-add-size : tie.Need-add-size
-add-size c =
-    let a = c .before .before .before .before .before .before .args in
-    let one = at-most-one (a .fields) (a .flag) (a .number) (a .bytes .now) (a .output .now) _ (c .before .before .before .format .ensures) _ (c .before .before .numbered .ensures) _ (c .before .one-if .ensures) _ (c .header-size .ensures) in
-    let five = at-most-five (a .fields) (a .flag) (a .number) (a .bytes .now) (a .output .now) _ (c .before .before .before .format .ensures) _ (c .before .before .numbered .ensures) _ (c .before .one-if .ensures) _ (c .header-size .ensures) in
-    record { fits = omega arith }
-
--- src/lib.rt:173:9
-returns : tie.Need-returns
-returns c =
-    let a = c .before .before .before .before .before .before .before .args in
-    short-room (a .fields) (a .flag) (a .number) (a .bytes .now) (a .output .now) _ (c .before .before .before .before .format .ensures) _ (c .before .before .before .numbered .ensures) _ (c .before .before .one-if .ensures) _ (c .before .header-size .ensures) (omega arith)
-
--- src/lib.rt:175:49
-add-header-of : tie.Need-add-header-of
-add-header-of c = search needs
-
--- src/lib.rt:175:48
+-- src/lib.rt:153:48
 cast-header-of : tie.Need-cast-header-of
 cast-header-of c =
-    let a = c .before .before .before .before .before .before .before .args in
-    let one = at-most-one (a .fields) (a .flag) (a .number) (a .bytes .now) (a .output .now) _ (c .before .before .before .before .format .ensures) _ (c .before .before .before .numbered .ensures) _ (c .before .before .one-if .ensures) _ (c .before .header-size .ensures) in
-    let five = at-most-five (a .fields) (a .flag) (a .number) (a .bytes .now) (a .output .now) _ (c .before .before .before .before .format .ensures) _ (c .before .before .before .numbered .ensures) _ (c .before .before .one-if .ensures) _ (c .before .header-size .ensures) in
-    record { fits = omega arith }
+    let c2 = c .before .before in
+    let c3 = c2 .before in
+    let c6 = c3 .before .before .before in
+    let a = c6 .args in
+    let near = start-near (c3 .format .result) (a .flag) in
+    let five = five-bytes (c3 .format .result) in
+    record { fits = omega (arith, c2 .packet-start .ensures, c .header-size .ensures) }
 
--- src/lib.rt:175:16
+-- src/lib.rt:153:16
 header-of-requires : tie.Need-header-of-requires
 header-of-requires c κs =
-    let a = c .before .before .before .before .before .before .before .args in
-    let one = at-most-one (a .fields) (a .flag) (a .number) (a .bytes .now) (a .output .now) _ (c .before .before .before .before .format .ensures) _ (c .before .before .before .numbered .ensures) _ (c .before .before .one-if .ensures) _ (c .before .header-size .ensures) in
-    let five = at-most-five (a .fields) (a .flag) (a .number) (a .bytes .now) (a .output .now) _ (c .before .before .before .before .format .ensures) _ (c .before .before .before .numbered .ensures) _ (c .before .before .one-if .ensures) _ (c .before .header-size .ensures) in
-    let s = c .before .before .before .before .before .before .before in
-    (s .pre .0, s .pre .1, omega arith)
+    let c2 = c .before .before in
+    let c3 = c2 .before in
+    let c6 = c3 .before .before .before in
+    let a = c6 .args in
+    let near = start-near (c3 .format .result) (a .flag) in
+    let five = five-bytes (c3 .format .result) in
+    (c6 .pre .0, c6 .pre .1, omega (arith, c2 .packet-start .ensures, c .header-size .ensures))
 
--- src/lib.rt:176:9
+-- src/lib.rt:154:9
 slice-aggregate-put : tie.Need-slice-aggregate-put
 slice-aggregate-put c = search needs
 
--- src/lib.rt:176:5
+-- src/lib.rt:154:5
 put-requires : tie.Need-put-requires
 put-requires c κs =
-    let a = c .before .before .before .before .before .before .before .before .before .before .args in
-    let one = at-most-one (a .fields) (a .flag) (a .number) (a .bytes .now) (a .output .now) _ (c .before .before .before .before .before .before .before .format .ensures) _ (c .before .before .before .before .before .before .numbered .ensures) _ (c .before .before .before .before .before .one-if .ensures) _ (c .before .before .before .before .header-size .ensures) in
-    let five = at-most-five (a .fields) (a .flag) (a .number) (a .bytes .now) (a .output .now) _ (c .before .before .before .before .before .before .before .format .ensures) _ (c .before .before .before .before .before .before .numbered .ensures) _ (c .before .before .before .before .before .one-if .ensures) _ (c .before .before .before .before .header-size .ensures) in
-    let six = head-six (a .fields) (a .flag) (a .number) (a .bytes .now) (a .output .now) _ (c .before .before .before .before .before .before .before .format .ensures) _ (c .before .before .before .before .before .before .numbered .ensures) _ (c .before .before .before .before .before .one-if .ensures) _ (c .before .before .before .before .header-size .ensures) _ (c .before .before .header-of .ensures) in
-    (omega arith, omega arith)
+    let c2 = c .before .before in
+    let c5 = c2 .before .before .before in
+    let c6 = c5 .before in
+    let c9 = c6 .before .before .before in
+    let a = c9 .args in
+    let near = start-near (c6 .format .result) (a .flag) in
+    let five = five-bytes (c6 .format .result) in
+    let six = head-six _ _ _ _ _ (c2 .header-of .ensures) in
+    (omega (arith, c5 .packet-start .ensures), omega arith)
 
--- src/lib.rt:163:1
+-- src/lib.rt:142:1
 same-length : tie.Need-same-length
 same-length c = search needs
 
--- src/lib.rt:163:1
+-- src/lib.rt:142:1
 returns-2 : tie.Need-returns-2
 returns-2 c =
-    let a = c .before .before .before .before .before .before .before .before .before .before .before .before .before .args in
-    put-room (a .fields) (a .flag) (a .number) (a .bytes .now) (a .output .now) _ (c .before .before .before .before .before .before .before .before .before .before .format .ensures) _ (c .before .before .before .before .before .before .before .before .before .numbered .ensures) _ (c .before .before .before .before .before .before .before .before .one-if .ensures) _ (c .before .before .before .before .before .before .before .header-size .ensures) _ (c .before .before .before .before .before .header-of .ensures) (omega arith) _ (c .before .before .put .ensures)
+    let c2 = c .before .before in
+    let c5 = c2 .before .before .before in
+    let c6 = c5 .before in
+    let c7 = c6 .before in
+    let c8 = c7 .before in
+    let c9 = c8 .before in
+    let c12 = c9 .before .before .before in
+    let a = c12 .args in
+    let starts = c8 .packet-start .ensures ∙ ap (λ (f : Format). packetStart f (a .flag)) (c9 .format .ensures) in
+    let sized = image-size (a .flag) (a .number) (a .bytes .now) (a .fields) _ starts in
+    let heads = c6 .header-size .ensures ∙ ap headerSize (c9 .format .ensures) in
+    let led = image-led (a .flag) (a .number) (a .bytes .now) (a .fields) _ starts _ heads _ (c5 .header-of .ensures)
+    in
+    has-room _ (a .output .now) _ sized (c7 .if1 .left) _
+    (c2 .put .ensures ∙ ap (λ (x : List ℕ). over x (a .output .now)) led)
 
 pub place-spec : {M : Type 1} → statement M
 place-spec =
     tie.close
     (tie.spec
     format-requires
-    numbered-requires
-    one-if-requires
-    header-size-requires
-    add-start
+    packet-start-requires
     add-size
     returns
-    add-header-of
+    header-size-requires
+    sub-count
     cast-header-of
     header-of-requires
     slice-aggregate-put
