@@ -4,57 +4,58 @@ use format::Fields;
 use format::Flag;
 use format::Format;
 use format::Outcome;
+use format::Refusal;
 use frame::Head;
 use frame::Verdict;
 use libc::STDOUT_FILENO;
 
-fn text(words: &[u8]) {
+fn show_text(words: &[u8]) {
     io::write_all(STDOUT_FILENO, words);
 }
 
-fn number(n: usize) {
+fn show_number(n: usize) {
     io::print_decimal(STDOUT_FILENO, n as u64);
 }
 
 // A word and a number, with a blank before each.
-fn field(name: &[u8], value: u8) {
-    text(b" ");
-    text(name);
-    text(b" ");
-    number(value as usize);
+fn show_field(name: &[u8], value: u8) {
+    show_text(b" ");
+    show_text(name);
+    show_text(b" ");
+    show_number(value as usize);
 }
 
-fn byte(b: u8) {
-    text(b" ");
+fn show_byte(b: u8) {
+    show_text(b" ");
     io::print_hex(STDOUT_FILENO, b as u64, 2);
 }
 
 // Bytes in hexadecimal, with a blank before each.
-fn hex(bytes: &[u8]) {
+fn show_hex(bytes: &[u8]) {
     let mut i = 0;
     while i < bytes.len() {
-        byte(bytes[i]);
+        show_byte(bytes[i]);
         i += 1;
     }
 }
 
-fn format_name(format: Format) {
+fn show_format(format: Format) {
     match format {
-        Format::Extended => text(b"extended"),
-        Format::Standard => text(b"standard"),
+        Format::Extended => show_text(b"extended"),
+        Format::Standard => show_text(b"standard"),
     }
 }
 
-fn flag_name(flag: Flag) {
+fn show_flag(flag: Flag) {
     match flag {
-        Flag::Middle => text(b" middle"),
-        Flag::Start => text(b" start"),
-        Flag::End => text(b" end"),
-        Flag::Single => text(b" single"),
+        Flag::Middle => show_text(b" middle"),
+        Flag::Start => show_text(b" start"),
+        Flag::End => show_text(b" end"),
+        Flag::Single => show_text(b" single"),
     }
 }
 
-fn fields_of(fields: Fields) {
+fn show_fields(fields: Fields) {
     match fields {
         Fields::Extended {
             priority,
@@ -63,99 +64,99 @@ fn fields_of(fields: Fields) {
             destination,
             function,
         } => {
-            field(b"priority", priority);
-            field(b"source", source);
-            field(b"group", group);
-            field(b"destination", destination);
-            field(b"function", function);
+            show_field(b"priority", priority);
+            show_field(b"source", source);
+            show_field(b"group", group);
+            show_field(b"destination", destination);
+            show_field(b"function", function);
         }
         Fields::Standard {
             priority,
             address,
             side,
         } => {
-            field(b"priority", priority);
-            field(b"address", address);
-            field(b"side", side);
+            show_field(b"priority", priority);
+            show_field(b"address", address);
+            show_field(b"side", side);
         }
     }
 }
 
-fn head_of(head: Head, image: &[u8]) {
+fn show_head(head: Head, image: &[u8]) {
     let fields = head.fields;
     let flag = head.flag;
     let start = head.start;
-    fields_of(fields);
-    flag_name(flag);
-    field(b"number", head.number);
-    text(b" bytes");
+    show_fields(fields);
+    show_flag(flag);
+    show_field(b"number", head.number);
+    show_text(b" bytes");
     if start <= image.len() {
-        hex(&image[start..]);
+        show_hex(&image[start..]);
     }
 }
 
 // An image, and what it is judged to be.
-fn judged(format: Format, image: &[u8]) {
-    format_name(format);
-    hex(image);
-    text(b":");
+fn show_judged(format: Format, image: &[u8]) {
+    show_format(format);
+    show_hex(image);
+    show_text(b":");
     match frame::judge(format, image) {
-        Verdict::Sound(head) => head_of(head, image),
-        Verdict::Refused(name) => field(b"refused", name.number()),
+        Verdict::Sound(head) => show_head(head, image),
+        Verdict::Refused(name) => show_field(b"refused", name.number()),
     }
-    text(b"\n");
+    show_text(b"\n");
 }
 
 // A packet's size, and its piece count.
-fn counted(format: Format, size: usize) {
-    format_name(format);
-    text(b" ");
-    number(size);
-    text(b" bytes:");
+fn show_count(format: Format, size: usize) {
+    show_format(format);
+    show_text(b" ");
+    show_number(size);
+    show_text(b" bytes:");
     match packet::piece_count(format, size) {
         Outcome::Value(count) => {
-            text(b" pieces ");
-            number(count);
+            show_text(b" pieces ");
+            show_number(count);
         }
-        Outcome::Refused(name) => field(b"refused", name.number()),
+        Outcome::Refused(name) => show_field(b"refused", name.number()),
     }
-    text(b"\n");
+    show_text(b"\n");
 }
 
 // Piece k of a packet, and the whole output afterwards.
-fn sent(fields: Fields, packet: &[u8], k: usize, output: &mut [u8]) {
-    text(b"piece ");
-    number(k);
-    text(b" of ");
-    number(packet.len());
-    text(b":");
+fn show_piece(fields: Fields, packet: &[u8], k: usize, output: &mut [u8]) {
+    show_text(b"piece ");
+    show_number(k);
+    show_text(b" of ");
+    show_number(packet.len());
+    show_text(b":");
     match packet::write_piece(fields, packet, k, output) {
         Outcome::Value(n) => {
-            text(b" length ");
-            number(n);
+            show_text(b" length ");
+            show_number(n);
         }
-        Outcome::Refused(name) => field(b"refused", name.number()),
+        Outcome::Refused(name) => show_field(b"refused", name.number()),
     }
-    text(b" output");
-    hex(output);
-    text(b"\n");
+    show_text(b" output");
+    show_hex(output);
+    show_text(b"\n");
 }
 
 // The examples of extended images.
 fn extended_images() {
     let extended = Format::Extended;
-    judged(extended, b"\x81\x45\x00\xC0\x10\x07");
-    judged(extended, b"\x80\xFF\xFF\xC0\xF8");
-    judged(extended, b"\x81\x45\x00\xC1\x10\x07");
-    judged(extended, b"\x91\x45\x00\xC1\x10\x07");
-    judged(extended, b"\xD1\x45\x00\xC1\x10\x07");
-    judged(extended, b"\xC1\x45\x00\xC1\x10\x07");
-    judged(
+    show_judged(extended, b"\x81\x45\x00\xC0\x10\x07");
+    show_judged(extended, b"\x80\xFF\xFF\xC0\xF8");
+    show_judged(extended, b"\x81\x45\x00\xC1\x10\x07");
+    show_judged(extended, b"\x91\x45\x00\xC1\x10\x07");
+    show_judged(extended, b"\xD1\x45\x00\xC1\x10\x07");
+    show_judged(extended, b"\xC1\x45\x00\xC1\x10\x07");
+    show_judged(
         extended,
         b"\x89\x45\x00\xC0\x10\x01\x02\x03\x04\x05\x06\x07\x08",
     );
-    judged(extended, b"\x81\x45\x00\xC0");
-    judged(
+    show_judged(extended, b"\x81\x45\x00\xC0");
+    show_judged(
         extended,
         b"\x81\x45\x00\xC0\x10\x01\x02\x03\x04\x05\x06\x07\x08\x09",
     );
@@ -164,25 +165,25 @@ fn extended_images() {
 // What the order of the refusals and each piece rule make of further images.
 fn extended_rules() {
     let extended = Format::Extended;
-    judged(extended, b"");
-    judged(extended, b"\x81\x45\x00\xC0\x11\x07");
-    judged(extended, b"\xCC\x45\x00\xC0\x10");
-    judged(extended, b"\x82\x45\x00\xC1\x10\x07");
-    judged(
+    show_judged(extended, b"");
+    show_judged(extended, b"\x81\x45\x00\xC0\x11\x07");
+    show_judged(extended, b"\xCC\x45\x00\xC0\x10");
+    show_judged(extended, b"\x82\x45\x00\xC1\x10\x07");
+    show_judged(
         extended,
         b"\x88\x06\x00\x00\x10\x30\x30\x34\x31\x32\x37\x30\x31",
     );
-    judged(extended, b"\x81\x06\x00\x81\x10\x39");
-    judged(extended, b"\x80\x06\x00\x81\x10");
-    judged(
+    show_judged(extended, b"\x81\x06\x00\x81\x10\x39");
+    show_judged(extended, b"\x80\x06\x00\x81\x10");
+    show_judged(
         extended,
         b"\x88\x06\x00\x41\x10\x30\x30\x34\x31\x32\x37\x30\x31",
     );
-    judged(
+    show_judged(
         extended,
         b"\x87\x06\x00\x40\x10\x30\x30\x34\x31\x32\x37\x30",
     );
-    judged(
+    show_judged(
         extended,
         b"\x87\x06\x00\x01\x10\x30\x30\x34\x31\x32\x37\x30",
     );
@@ -191,61 +192,61 @@ fn extended_rules() {
 // The examples of standard images, and their length and order of refusals.
 fn standard_images() {
     let standard = Format::Standard;
-    judged(standard, b"\x96\xE3\x01\x02\x03");
-    judged(standard, b"\x96\xC2\x01\x08");
-    judged(standard, b"\x96\xC3\x01\x08\x09");
-    judged(standard, b"\x96");
-    judged(standard, b"\x96\xE8\x01\x02\x03\x04\x05\x06\x07\x08\x09");
-    judged(standard, b"\x96\xF9");
-    judged(standard, b"\x96\xE9\x01\x02\x03\x04\x05\x06\x07\x08");
-    judged(standard, b"\x16\x20");
-    judged(standard, b"\x96\xC1\x01");
+    show_judged(standard, b"\x96\xE3\x01\x02\x03");
+    show_judged(standard, b"\x96\xC2\x01\x08");
+    show_judged(standard, b"\x96\xC3\x01\x08\x09");
+    show_judged(standard, b"\x96");
+    show_judged(standard, b"\x96\xE8\x01\x02\x03\x04\x05\x06\x07\x08\x09");
+    show_judged(standard, b"\x96\xF9");
+    show_judged(standard, b"\x96\xE9\x01\x02\x03\x04\x05\x06\x07\x08");
+    show_judged(standard, b"\x16\x20");
+    show_judged(standard, b"\x96\xC1\x01");
 }
 
 // The numbers that standard pieces may have.
 fn standard_rules() {
     let standard = Format::Standard;
-    judged(standard, b"\x16\x28\x00\x30\x30\x34\x31\x32\x37\x30");
-    judged(standard, b"\x16\x28\x01\x30\x30\x34\x31\x32\x37\x30");
-    judged(standard, b"\x16\x08\x00\x30\x30\x34\x31\x32\x37\x30");
-    judged(standard, b"\x16\x08\x01\x30\x30\x34\x31\x32\x37\x30");
-    judged(standard, b"\x16\x08\xFE\x30\x30\x34\x31\x32\x37\x30");
-    judged(standard, b"\x16\x08\xFF\x30\x30\x34\x31\x32\x37\x30");
-    judged(standard, b"\x16\x42\x00\x39");
-    judged(standard, b"\x16\x42\x02\x39");
-    judged(standard, b"\x16\x42\xFF\x39");
-    judged(standard, b"\x16\x47\x02\x30\x30\x34\x31\x32\x37");
+    show_judged(standard, b"\x16\x28\x00\x30\x30\x34\x31\x32\x37\x30");
+    show_judged(standard, b"\x16\x28\x01\x30\x30\x34\x31\x32\x37\x30");
+    show_judged(standard, b"\x16\x08\x00\x30\x30\x34\x31\x32\x37\x30");
+    show_judged(standard, b"\x16\x08\x01\x30\x30\x34\x31\x32\x37\x30");
+    show_judged(standard, b"\x16\x08\xFE\x30\x30\x34\x31\x32\x37\x30");
+    show_judged(standard, b"\x16\x08\xFF\x30\x30\x34\x31\x32\x37\x30");
+    show_judged(standard, b"\x16\x42\x00\x39");
+    show_judged(standard, b"\x16\x42\x02\x39");
+    show_judged(standard, b"\x16\x42\xFF\x39");
+    show_judged(standard, b"\x16\x47\x02\x30\x30\x34\x31\x32\x37");
 }
 
 fn extended_counts() {
     let extended = Format::Extended;
-    counted(extended, 0);
-    counted(extended, 8);
-    counted(extended, 9);
-    counted(extended, 16);
-    counted(extended, 17);
-    counted(extended, 2048);
-    counted(extended, 2049);
-    counted(extended, 18446744073709551615);
+    show_count(extended, 0);
+    show_count(extended, 8);
+    show_count(extended, 9);
+    show_count(extended, 16);
+    show_count(extended, 17);
+    show_count(extended, 2048);
+    show_count(extended, 2049);
+    show_count(extended, 18446744073709551615);
 }
 
 fn standard_counts() {
     let standard = Format::Standard;
-    counted(standard, 0);
-    counted(standard, 7);
-    counted(standard, 8);
-    counted(standard, 9);
-    counted(standard, 14);
-    counted(standard, 15);
-    counted(standard, 1792);
-    counted(standard, 1793);
+    show_count(standard, 0);
+    show_count(standard, 7);
+    show_count(standard, 8);
+    show_count(standard, 9);
+    show_count(standard, 14);
+    show_count(standard, 15);
+    show_count(standard, 1792);
+    show_count(standard, 1793);
 }
 
 // Piece k, written over as many bytes EE as asked for, 14 at most.
 fn piece(fields: Fields, packet: &[u8], k: usize, room: usize) {
     let mut output = [238u8; 14];
     if room <= 14 {
-        sent(fields, packet, k, &mut output[..room]);
+        show_piece(fields, packet, k, &mut output[..room]);
     }
 }
 
@@ -291,6 +292,41 @@ fn refusals() {
     piece(wrong, b"004127019", 2, 0);
 }
 
+// A piece of extended fields, of which one may be out of range.
+fn extended_piece(priority: u8, source: u8, group: u8, destination: u8, function: u8) {
+    let fields = Fields::Extended {
+        priority: priority,
+        source: source,
+        group: group,
+        destination: destination,
+        function: function,
+    };
+    piece(fields, b"004127019", 1, 6);
+}
+
+fn standard_piece(priority: u8, address: u8, side: u8) {
+    let fields = Fields::Standard {
+        priority: priority,
+        address: address,
+        side: side,
+    };
+    piece(fields, b"004127019", 1, 6);
+}
+
+// The largest value of each field, and one more of each.
+fn field_ranges() {
+    extended_piece(3, 63, 3, 63, 31);
+    extended_piece(4, 63, 3, 63, 31);
+    extended_piece(3, 64, 3, 63, 31);
+    extended_piece(3, 63, 4, 63, 31);
+    extended_piece(3, 63, 3, 64, 31);
+    extended_piece(3, 63, 3, 63, 32);
+    standard_piece(3, 63, 1);
+    standard_piece(4, 63, 1);
+    standard_piece(3, 64, 1);
+    standard_piece(3, 63, 2);
+}
+
 // Pieces about the ends and the wrap of the numbers.
 fn ends(fields: Fields, packet: &[u8]) {
     piece(fields, packet, 0, 14);
@@ -311,13 +347,48 @@ fn long_packets(fields: Fields, packet: &[u8], longest: usize) {
     }
 }
 
-// Byte i is i modulo 251, so that no two pieces are alike.
+// Bytes of which no two pieces are alike, in either format.
 fn fill(packet: &mut [u8]) {
     let mut i = 0;
     while i < packet.len() {
-        packet[i] = (i % 251) as u8;
+        packet[i] = ((i % 256 + i / 256) % 256) as u8;
         i += 1;
     }
+}
+
+fn show_refusal(name: &[u8], refusal: Refusal) {
+    show_text(name);
+    show_text(b" ");
+    show_number(refusal.number() as usize);
+    show_text(b"\n");
+}
+
+// The refusals' names and numbers.
+fn numbers_of_images() {
+    show_refusal(b"LENGTH", Refusal::Length);
+    show_refusal(b"FORM", Refusal::Form);
+    show_refusal(b"REMOTE", Refusal::Remote);
+    show_refusal(b"COUNT", Refusal::Count);
+    show_refusal(b"PIECE", Refusal::Piece);
+    show_refusal(b"ORPHAN", Refusal::Orphan);
+    show_refusal(b"STEP", Refusal::Step);
+    show_refusal(b"LONG", Refusal::Long);
+    show_refusal(b"FIELD", Refusal::Field);
+    show_refusal(b"SIZE", Refusal::Size);
+}
+
+fn numbers_of_calls() {
+    show_refusal(b"INDEX", Refusal::Index);
+    show_refusal(b"ROOM", Refusal::Room);
+    show_refusal(b"STORE", Refusal::Store);
+    show_refusal(b"TAKEN", Refusal::Taken);
+    show_refusal(b"FULL", Refusal::Full);
+    show_refusal(b"CLOSED", Refusal::Closed);
+    show_refusal(b"NOPACKET", Refusal::NoPacket);
+    show_refusal(b"BUSY", Refusal::Busy);
+    show_refusal(b"IDLE", Refusal::Idle);
+    show_refusal(b"NOTAWAITED", Refusal::NotAwaited);
+    show_refusal(b"STATE", Refusal::State);
 }
 
 fn main() {
@@ -329,6 +400,9 @@ fn main() {
     standard_counts();
     short_packets();
     refusals();
+    field_ranges();
+    numbers_of_images();
+    numbers_of_calls();
     let mut packet = [0u8; 2049];
     fill(&mut packet);
     let fields = Fields::Extended {

@@ -1,3 +1,4 @@
 pub mod Tests
 pub mod Formats
 pub mod Refusals
+pub mod Claims

@@ -1,3 +1,4 @@
 pub mod Flags
 mod JudgeLaws
 pub mod Images
+mod Verdicts

@@ -7,7 +7,8 @@ use lib.ListN.{length, getD, drop}
 use Rattle.format.specs.declared.Format.{Format}
 use Rattle.format.specs.Formats.{formatOf, packetStart}
 use Rattle.format.specs.Refusals.{value}
-use Rattle.frame.specs.Judge.{Frame, Judged, judge}
+use Rattle.frame.specs.declared.Verdict.{Verdict}
+use Rattle.frame.specs.Judge.{Frame, Judged, judge, meaning}
 use Rattle.frame.specs.Image.{imageOf, soundFrame}
 
 -- a list of bytes, as every slice of u8 is one
@@ -39,3 +40,7 @@ unfoldable pub OneImage : Type 0
 OneImage =
     (format format′ : Format) (image image′ : List ℕ) → Bytes image → Bytes image′ → (judged judged′ : Judged)
     → judge format image ≡ value judged → judge format′ image′ ≡ value judged′ → judged .frame ≡ judged′ .frame → image ≡ image′
+
+-- an answer's meaning leaves no doubt which answer it is, so the contract of judging determines the answer
+unfoldable pub OneVerdict : Type 0
+OneVerdict = (a b : Verdict) (image : List ℕ) → meaning a image ≡ meaning b image → a ≡ b

@@ -3,7 +3,7 @@
 use Prim.Native.Nat.{ℕ}
 use mathlib.Core.Path.{_≡_}
 use mathlib.Core.List.{List, [], _∷_, map}
-use lib.ListN.{getD, replicate}
+use lib.ListN.{length, getD, replicate}
 use Rattle.format.specs.declared.Format.{Format}
 use Rattle.format.specs.declared.Format.the-variants.{Extended, Standard}
 use Rattle.format.specs.declared.Fields.{Fields}
@@ -13,6 +13,8 @@ use Rattle.format.specs.declared.Flag.the-variants.{End, Single}
 use Rattle.format.specs.declared.Refusal.the-variants.{Length, Form, Remote, Count, Piece, Size}
 use Rattle.format.specs.Refusals.{Result, value, refused, number}
 use Rattle.frame.specs.Judge.{Judged, judge}
+use Rattle.frame.specs.Image.{imageOf}
+use Rattle.packet.specs.Split.{piece}
 use Rattle.packet.specs.Send.{countOf, send}
 
 pub data Example : Type 0 where
@@ -65,26 +67,35 @@ table =
     ∷ numbers 2048 255 0xBF
     ∷ []
 
-pub data Outcome : Type 0 where
-  judgement : Result Judged → Outcome
-  count : Result ℕ → Outcome
-  byte : Result ℕ → Outcome
+-- what an example shows
+pub data Shown : Type 0 where
+  judgement : Result Judged → Shown
+  count : Result ℕ → Shown
+  byte : Result ℕ → Shown
 
-abbrev third : Result (List ℕ) → Result ℕ
-third (value image) = value (getD image 3 0)
-third (refused n) = refused n
+-- byte 3 of an image; 256, which is no byte, where it has none
+abbrev byteThree : Result (List ℕ) → Result ℕ
+byteThree (value image) = value (getD image 3 256)
+byteThree (refused n) = refused n
 
--- what the definitions give; the packet's own bytes and fields play no part in byte 3
-unfoldable pub given : Example → Outcome
+-- what the definitions give, for byte 3 with a packet of zeros
+unfoldable pub given : Example → Shown
 given (judges format image said) = judgement (judge format image)
 given (counts format size said) = count (countOf format size)
-given (numbers size k said) = byte (third (send (fields.Extended 0 0 0 0 0) (replicate size 0) k 13))
+given (numbers size k said) = byte (byteThree (send (fields.Extended 0 0 0 0 0) (replicate size 0) k 13))
 
 -- what document 01 says
-unfoldable pub stated : Example → Outcome
+unfoldable pub stated : Example → Shown
 stated (judges format image said) = judgement said
 stated (counts format size said) = count said
 stated (numbers size k said) = byte (value said)
 
 unfoldable pub ExamplesHold : Type 0
 ExamplesHold = map given table ≡ map stated table
+
+-- byte 3 is the same whatever the packet's bytes and the fields are: it depends on the packet's size and k alone
+unfoldable pub ByteThree : Type 0
+ByteThree =
+    (priority source group destination function : ℕ) (packet packet′ : List ℕ) (k : ℕ) → length packet ≡ length packet′
+    → getD (imageOf (piece (fields.Extended priority source group destination function) packet k)) 3 256
+    ≡ getD (imageOf (piece (fields.Extended 0 0 0 0 0) packet′ k)) 3 256

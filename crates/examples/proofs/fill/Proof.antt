@@ -1,11 +1,10 @@
+-- `examples::fill` meets its contract: the loop's invariant keeps the length.
 use borrow.Author.Needs.{needs}
 use Prim.Native.Nat.{_-_, _≤_}
 use mathlib.Core.Path.{_≡_}
 use lib.ListN.{length, length-set}
 use Rattle.examples.proofs.fill.Statement.{statement}
 use Rattle.examples.proofs.fill.Tie as tie
-use Rattle.examples.proofs.fill.Reads as reads
-use Rattle.examples.proofs.fill.Lts as lts
 
 abbrev Inv-loop : tie.InvT-loop
 Inv-loop packet₀ i₀ packet i = (i ≤ length packet₀) × (length packet ≡ length packet₀)
@@ -13,35 +12,30 @@ Inv-loop packet₀ i₀ packet i = (i ≤ length packet₀) × (length packet �
 abbrev μ-loop : tie.MeasureT-loop
 μ-loop packet₀ i₀ packet i = length packet₀ - i
 
--- src/main.rt:289:5
 loop-holds : tie.Need-loop-holds Inv-loop μ-loop
 loop-holds c = search needs
 
--- src/main.rt:290:21
+add-packet : tie.Need-add-packet Inv-loop μ-loop
+add-packet c = search needs
+
 cast-packet : tie.Need-cast-packet Inv-loop μ-loop
 cast-packet c = search needs
 
--- src/main.rt:290:9
 slice-write-packet : tie.Need-slice-write-packet Inv-loop μ-loop
 slice-write-packet c = search needs
 
--- src/main.rt:291:9
 add-i : tie.Need-add-i Inv-loop μ-loop
 add-i c = search needs
 
--- src/main.rt:289:5
 loop-less : tie.Need-loop-less Inv-loop μ-loop
 loop-less c = search needs
 
--- src/main.rt:289:5
 loop-again : tie.Need-loop-again Inv-loop μ-loop
 loop-again c = (search needs, simp length-set (c .before .loop .inv .1))
 
--- src/main.rt:287:1
 same-length : tie.Need-same-length Inv-loop μ-loop
 same-length c = search needs
 
--- src/main.rt:287:1
 returns : tie.Need-returns Inv-loop μ-loop
 returns c = search needs
 
@@ -52,6 +46,7 @@ fill-spec =
     Inv-loop
     μ-loop
     loop-holds
+    add-packet
     cast-packet
     slice-write-packet
     add-i

@@ -1,26 +1,21 @@
+-- `frame::flag_of` meets its contract: by the tests.
 use borrow.Author.Tests.{eq-eqb, ne-eqb}
 use Rattle.frame.specs.Layout.{flagOf}
 use Rattle.frame.proofs.flag_of.Statement.{statement}
 use Rattle.frame.proofs.flag_of.Tie as tie
-use Rattle.frame.proofs.flag_of.Reads as reads
-use Rattle.frame.proofs.flag_of.Lts as lts
 
--- src/lib.rt:45:9
 returns : tie.Need-returns
 unfolding flagOf
 returns c = simp (eq-eqb _ _ (c .if1 .taken))
 
--- src/lib.rt:48:9
 returns-2 : tie.Need-returns-2
 unfolding flagOf
 returns-2 c = simp (ne-eqb _ _ (c .before .if1 .left), eq-eqb _ _ (c .if2 .taken))
 
--- src/lib.rt:51:9
 returns-3 : tie.Need-returns-3
 unfolding flagOf
 returns-3 c = simp (ne-eqb _ _ (c .before .before .if1 .left), ne-eqb _ _ (c .before .if2 .left), eq-eqb _ _ (c .if3 .taken))
 
--- src/lib.rt:41:1
 returns-4 : tie.Need-returns-4
 unfolding flagOf
 returns-4 c = simp (ne-eqb _ _ (c .before .before .if1 .left), ne-eqb _ _ (c .before .if2 .left), ne-eqb _ _ (c .if3 .left))

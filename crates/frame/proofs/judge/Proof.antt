@@ -1,79 +1,108 @@
+-- `frame::judge` meets its contract: each return is the first check that fails (JudgeLaws), or all hold.
 use borrow.Author.Needs.{needs}
 use mathlib.Core.Path.{refl}
 use native.Mathlib.Omega.{arith}
 use Rattle.frame.proofs.JudgeLaws.{too-short, too-long, misformed, remote, over-eight, other-count, unruled, ruled}
 use Rattle.frame.proofs.judge.Statement.{statement}
 use Rattle.frame.proofs.judge.Tie as tie
-use Rattle.frame.proofs.judge.Reads as reads
-use Rattle.frame.proofs.judge.Lts as lts
-use Rattle.format.proofs.Format.header_size.Reads as header-size-reads
-use Rattle.frame.proofs.layout_of.Reads as layout-of-reads
-use Rattle.frame.proofs.piece_rule.Reads as piece-rule-reads
-use Rattle.frame.proofs.wide.Reads as wide-reads
 
--- src/lib.rt:190:9
 header-size-requires : tie.Need-header-size-requires
 header-size-requires c κs = search needs
 
--- src/lib.rt:192:9
 returns : tie.Need-returns
 returns c =
-    let a = c .before .before .before .args in
-    too-short (a .format) (a .image .now) _ refl _ (c .before .header-size .ensures) (omega arith)
+    let c1 = c .before in
+    let c3 = c1 .before .before in
+    let a = c3 .args in
+    too-short (a .format) (a .image .now) _ refl _ (c1 .header-size .ensures) (omega arith)
 
--- src/lib.rt:195:9
 returns-2 : tie.Need-returns-2
 returns-2 c =
-    let a = c .before .before .before .before .args in
-    too-long (a .format) (a .image .now) _ refl _ (c .before .before .header-size .ensures) (omega arith) (omega arith)
+    let c2 = c .before .before in
+    let c4 = c2 .before .before in
+    let a = c4 .args in
+    too-long (a .format) (a .image .now) _ refl _ (c2 .header-size .ensures) (omega arith) (omega arith)
 
--- src/lib.rt:197:9
 layout-of-requires : tie.Need-layout-of-requires
 layout-of-requires c κs = search needs
 
--- src/lib.rt:200:9
 returns-3 : tie.Need-returns-3
 returns-3 c =
-    let a = c .before .before .before .before .before .before .before .args in
-    misformed (a .format) (a .image .now) _ (c .before .before .layout-of .ensures) _ (c .before .before .before .before .before .header-size .ensures) (omega arith) (omega arith) (c .if3 .taken)
+    let c2 = c .before .before in
+    let c5 = c2 .before .before .before in
+    let c7 = c5 .before .before in
+    let a = c7 .args in
+    misformed (a .format) (a .image .now) _ (c2 .layout-of .ensures) _ (c5 .header-size .ensures) (omega arith)
+    (omega arith) (c .if3 .taken)
 
--- src/lib.rt:203:9
 returns-4 : tie.Need-returns-4
 returns-4 c =
-    let a = c .before .before .before .before .before .before .before .before .args in
-    remote (a .format) (a .image .now) _ (c .before .before .before .layout-of .ensures) _ (c .before .before .before .before .before .before .header-size .ensures) (omega arith) (omega arith) (c .before .if3 .left) (c .if4 .taken)
+    let c1 = c .before in
+    let c3 = c1 .before .before in
+    let c6 = c3 .before .before .before in
+    let c8 = c6 .before .before in
+    let a = c8 .args in
+    remote (a .format) (a .image .now) _ (c3 .layout-of .ensures) _ (c6 .header-size .ensures) (omega arith)
+    (omega arith) (c1 .if3 .left) (c .if4 .taken)
 
--- src/lib.rt:207:9
 returns-5 : tie.Need-returns-5
 returns-5 c =
-    let a = c .before .before .before .before .before .before .before .before .before .args in
-    over-eight (a .format) (a .image .now) _ (c .before .before .before .before .layout-of .ensures) _ (c .before .before .before .before .before .before .before .header-size .ensures) (omega arith) (omega arith) (c .before .before .if3 .left) (c .before .if4 .left) (omega arith)
+    let c1 = c .before in
+    let c2 = c1 .before in
+    let c4 = c2 .before .before in
+    let c7 = c4 .before .before .before in
+    let c9 = c7 .before .before in
+    let a = c9 .args in
+    over-eight (a .format) (a .image .now) _ (c4 .layout-of .ensures) _ (c7 .header-size .ensures) (omega arith)
+    (omega arith) (c2 .if3 .left) (c1 .if4 .left) (omega arith)
 
--- src/lib.rt:209:22
 wide-requires : tie.Need-wide-requires
 wide-requires c κs = search needs
 
--- src/lib.rt:210:9
 returns-6 : tie.Need-returns-6
 returns-6 c =
-    let a = c .before .before .before .before .before .before .before .before .before .before .before .args in
-    other-count (a .format) (a .image .now) _ (c .before .before .before .before .before .before .layout-of .ensures) _ (c .before .before .before .before .before .before .before .before .before .header-size .ensures) (omega arith) (omega arith) (c .before .before .before .before .if3 .left) (c .before .before .before .if4 .left) (omega arith) _ (c .before .wide .ensures) (c .if6 .taken)
+    let c1 = c .before in
+    let c3 = c1 .before .before in
+    let c4 = c3 .before in
+    let c6 = c4 .before .before in
+    let c9 = c6 .before .before .before in
+    let c11 = c9 .before .before in
+    let a = c11 .args in
+    other-count (a .format) (a .image .now) _ (c6 .layout-of .ensures) _ (c9 .header-size .ensures) (omega arith)
+    (omega arith) (c4 .if3 .left) (c3 .if4 .left) (omega arith) _ (c1 .wide .ensures) (c .if6 .taken)
 
--- src/lib.rt:213:9
 piece-rule-requires : tie.Need-piece-rule-requires
 piece-rule-requires c κs = search needs
 
--- src/lib.rt:214:9
 returns-7 : tie.Need-returns-7
 returns-7 c =
-    let a = c .before .before .before .before .before .before .before .before .before .before .before .before .before .args in
-    unruled (a .format) (a .image .now) _ (c .before .before .before .before .before .before .before .before .layout-of .ensures) _ (c .before .before .before .before .before .before .before .before .before .before .before .header-size .ensures) (omega arith) (omega arith) (c .before .before .before .before .before .before .if3 .left) (c .before .before .before .before .before .if4 .left) (omega arith) _ (c .before .before .before .wide .ensures) (c .before .before .if6 .left) _ (c .before .piece-rule .ensures) (c .if7 .taken)
+    let c1 = c .before in
+    let c2 = c1 .before in
+    let c3 = c2 .before in
+    let c5 = c3 .before .before in
+    let c6 = c5 .before in
+    let c8 = c6 .before .before in
+    let c11 = c8 .before .before .before in
+    let c13 = c11 .before .before in
+    let a = c13 .args in
+    unruled (a .format) (a .image .now) _ (c8 .layout-of .ensures) _ (c11 .header-size .ensures) (omega arith)
+    (omega arith) (c6 .if3 .left) (c5 .if4 .left) (omega arith) _ (c3 .wide .ensures) (c2 .if6 .left) _
+    (c1 .piece-rule .ensures) (c .if7 .taken)
 
--- src/lib.rt:186:1
 returns-8 : tie.Need-returns-8
 returns-8 c =
-    let a = c .before .before .before .before .before .before .before .before .before .before .before .before .before .args in
-    ruled (a .format) (a .image .now) _ (c .before .before .before .before .before .before .before .before .layout-of .ensures) _ (c .before .before .before .before .before .before .before .before .before .before .before .header-size .ensures) (omega arith) (omega arith) (c .before .before .before .before .before .before .if3 .left) (c .before .before .before .before .before .if4 .left) (omega arith) _ (c .before .before .before .wide .ensures) (c .before .before .if6 .left) _ (c .before .piece-rule .ensures) (c .if7 .left)
+    let c1 = c .before in
+    let c2 = c1 .before in
+    let c3 = c2 .before in
+    let c5 = c3 .before .before in
+    let c6 = c5 .before in
+    let c8 = c6 .before .before in
+    let c11 = c8 .before .before .before in
+    let c13 = c11 .before .before in
+    let a = c13 .args in
+    ruled (a .format) (a .image .now) _ (c8 .layout-of .ensures) _ (c11 .header-size .ensures) (omega arith)
+    (omega arith) (c6 .if3 .left) (c5 .if4 .left) (omega arith) _ (c3 .wide .ensures) (c2 .if6 .left) _
+    (c1 .piece-rule .ensures) (c .if7 .left)
 
 pub judge-spec : {M : Type 1} → statement M
 judge-spec =

@@ -1,25 +1,20 @@
+-- `frame::middle_rule` meets its contract: by the arms.
 use Rattle.format.specs.Tests.{all}
 use Rattle.frame.specs.Judge.{pieceRule}
 use borrow.Author.Needs.{needs}
 use Rattle.frame.proofs.middle_rule.Statement.{statement}
 use Rattle.frame.proofs.middle_rule.Tie as tie
-use Rattle.frame.proofs.middle_rule.Reads as reads
-use Rattle.frame.proofs.middle_rule.Lts as lts
 
--- src/lib.rt:153:29
 enum-told : tie.Need-enum-told
 enum-told c = search needs
 
--- src/lib.rt:154:30
 enum-told-2 : tie.Need-enum-told-2
 enum-told-2 c = search needs
 
--- src/lib.rt:149:1
 returns : tie.Need-returns
 unfolding pieceRule all
 returns c = simp (c .enum-told .given .1)
 
--- src/lib.rt:149:1
 returns-2 : tie.Need-returns-2
 unfolding pieceRule all
 returns-2 c = simp (c .enum-told2 .given .1)

@@ -1,53 +1,40 @@
+-- `frame::piece_rule` meets its contract: by the arms and the two rules that it calls.
 use Rattle.format.specs.Tests.{all}
 use Rattle.frame.specs.Judge.{pieceRule}
 use borrow.Author.Needs.{needs}
 use Rattle.frame.proofs.piece_rule.Statement.{statement}
 use Rattle.frame.proofs.piece_rule.Tie as tie
-use Rattle.frame.proofs.piece_rule.Reads as reads
-use Rattle.frame.proofs.piece_rule.Lts as lts
-use Rattle.frame.proofs.end_rule.Reads as end-rule-reads
-use Rattle.frame.proofs.middle_rule.Reads as middle-rule-reads
 
--- src/lib.rt:177:25
 enum-told : tie.Need-enum-told
 enum-told c = search needs
 
--- src/lib.rt:177:25
 middle-rule-requires : tie.Need-middle-rule-requires
 middle-rule-requires c κs = search needs
 
--- src/lib.rt:178:25
 enum-told-2 : tie.Need-enum-told-2
 enum-told-2 c = search needs
 
--- src/lib.rt:179:22
 enum-told-3 : tie.Need-enum-told-3
 enum-told-3 c = search needs
 
--- src/lib.rt:179:22
 end-rule-requires : tie.Need-end-rule-requires
 end-rule-requires c κs = search needs
 
--- src/lib.rt:180:26
 enum-told-4 : tie.Need-enum-told-4
 enum-told-4 c = search needs
 
--- src/lib.rt:173:1
 returns : tie.Need-returns
 unfolding pieceRule all
 returns c = simp (c .before .enum-told .given .1, c .middle-rule .ensures)
 
--- src/lib.rt:173:1
 returns-2 : tie.Need-returns-2
 unfolding pieceRule all
 returns-2 c = simp (c .enum-told2 .given .1)
 
--- src/lib.rt:173:1
 returns-3 : tie.Need-returns-3
 unfolding pieceRule all
 returns-3 c = simp (c .before .enum-told3 .given .1, c .end-rule .ensures)
 
--- src/lib.rt:173:1
 returns-4 : tie.Need-returns-4
 unfolding pieceRule all
 returns-4 c = simp (c .enum-told4 .given .1)

@@ -1,3 +1,4 @@
+-- `packet::bytes_at` meets its contract: piece k begins within the packet (Counts), and the part is the definition's.
 use borrow.Author.Needs.{needs}
 use Prim.Native.Nat.{_-_, _*_, _<_, _≤_}
 use mathlib.Core.Path.{sym, _∙_}
@@ -8,8 +9,6 @@ use lib.Seq.{take-all}
 use Rattle.packet.proofs.Counts.{several, bytes-single, bytes-several, bytes-last}
 use Rattle.packet.proofs.bytes_at.Statement.{statement}
 use Rattle.packet.proofs.bytes_at.Tie as tie
-use Rattle.packet.proofs.bytes_at.Reads as reads
-use Rattle.packet.proofs.bytes_at.Lts as lts
 
 -- piece k begins within the packet
 inside : (c : tie.Start) → 8 < length (c .args .packet .now) → c .args .z * c .args .k ≤ length (c .args .packet .now)
@@ -18,54 +17,42 @@ inside c long =
     let h = several (a .z) (length (a .packet .now)) (c .pre .0) (c .pre .1) long .within (a .k) (c .pre .3) in
     omega arith
 
--- src/lib.rt:71:9
 returns : tie.Need-returns
 returns c = sym (bytes-single _ _ _ (c .if1 .taken))
 
--- src/lib.rt:73:16
 mul-from : tie.Need-mul-from
 mul-from c = record { fits = omega (arith, inside (c .before) (c .if1 .left)) }
 
--- src/lib.rt:74:8
 sub-if2 : tie.Need-sub-if2
 sub-if2 c = omega (arith, inside (c .before) (c .if1 .left))
 
--- src/lib.rt:75:16
 sub-result : tie.Need-sub-result
 sub-result c = omega (arith, inside (c .before .before) (c .before .if1 .left))
 
--- src/lib.rt:75:16
 part-result-start : tie.Need-part-result-start
 part-result-start c = omega (arith, inside (c .before .before) (c .before .if1 .left))
 
--- src/lib.rt:75:16
 part-result-end : tie.Need-part-result-end
 part-result-end c = search needs
 
--- src/lib.rt:75:9
 returns-2 : tie.Need-returns-2
 returns-2 c =
     let a = c .before .before .before .args in
     take-all (length (a .packet .now) - a .z * a .k) (drop (a .z * a .k) (a .packet .now)) (rw length-drop (omega arith))
     ∙ sym (bytes-last (a .z) (a .packet .now) (a .k) (c .before .before .if1 .left) (c .before .if2 .taken))
 
--- src/lib.rt:77:14
 add-to : tie.Need-add-to
 add-to c = search needs
 
--- src/lib.rt:78:5
 sub-result-2 : tie.Need-sub-result-2
 sub-result-2 c = search needs
 
--- src/lib.rt:78:5
 part-result-start-2 : tie.Need-part-result-start-2
 part-result-start-2 c = search needs
 
--- src/lib.rt:78:5
 part-result-end-2 : tie.Need-part-result-end-2
 part-result-end-2 c = search needs
 
--- src/lib.rt:65:1
 returns-3 : tie.Need-returns-3
 returns-3 c =
     let a = c .before .before .before .args in

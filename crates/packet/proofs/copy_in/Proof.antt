@@ -1,3 +1,4 @@
+-- `packet::copy_in` meets its contract: the loop's invariant: the first j bytes are pasted, and the output keeps its length.
 use mathlib.Core.Path.{_≡_, refl}
 use Prim.Native.Nat.{_≤_, _<_, _+_, _-_}
 use native.Mathlib.Nat.{le-antisymm}
@@ -8,8 +9,6 @@ use lib.ListN.{length, length-set}
 use lib.Seq.{paste, paste-zero, paste-suc}
 use Rattle.packet.proofs.copy_in.Statement.{statement}
 use Rattle.packet.proofs.copy_in.Tie as tie
-use Rattle.packet.proofs.copy_in.Reads as reads
-use Rattle.packet.proofs.copy_in.Lts as lts
 
 abbrev Inv-loop : tie.InvT-loop
 Inv-loop output₀ at bytes n j₀ output j = (j ≤ n) × (output ≡ paste output₀ at bytes j) × (length output ≡ length output₀)
@@ -17,31 +16,24 @@ Inv-loop output₀ at bytes n j₀ output j = (j ≤ n) × (output ≡ paste out
 abbrev μ-loop : tie.MeasureT-loop
 μ-loop output₀ at bytes n j₀ output j = n - j
 
--- src/lib.rt:13:5
 loop-holds : tie.Need-loop-holds Inv-loop μ-loop
 loop-holds c = (search needs, paste-zero (c .args .output .now) (c .args .at) (c .args .bytes .now), refl)
 
--- src/lib.rt:14:24
 shared-slice-read-output : tie.Need-shared-slice-read-output Inv-loop μ-loop
 shared-slice-read-output c = search needs
 
--- src/lib.rt:14:14
 add-output : tie.Need-add-output Inv-loop μ-loop
 add-output c = search needs
 
--- src/lib.rt:14:9
 slice-write-output : tie.Need-slice-write-output Inv-loop μ-loop
 slice-write-output c = search needs
 
--- src/lib.rt:15:9
 add-j : tie.Need-add-j Inv-loop μ-loop
 add-j c = search needs
 
--- src/lib.rt:13:5
 loop-less : tie.Need-loop-less Inv-loop μ-loop
 loop-less c = search needs
 
--- src/lib.rt:13:5
 loop-again : tie.Need-loop-again Inv-loop μ-loop
 loop-again c =
     let a = c .before .before in
@@ -52,11 +44,9 @@ loop-again c =
       rw (length-set, a .loop .inv .2),
     )
 
--- src/lib.rt:8:1
 same-length : tie.Need-same-length Inv-loop μ-loop
 same-length c = search needs
 
--- src/lib.rt:8:1
 returns : tie.Need-returns Inv-loop μ-loop
 returns c =
     let a = c .before in

@@ -1,29 +1,23 @@
+-- `packet::count_of` meets its contract: by the test.
 use borrow.Author.Tests.{le-leb, lt-leb}
 use Rattle.packet.specs.Split.{pieceCount}
 use borrow.Author.Needs.{needs}
 use Rattle.packet.proofs.count_of.Statement.{statement}
 use Rattle.packet.proofs.count_of.Tie as tie
-use Rattle.packet.proofs.count_of.Reads as reads
-use Rattle.packet.proofs.count_of.Lts as lts
 
--- src/lib.rt:22:9
 returns : tie.Need-returns
 unfolding pieceCount
 returns c = simp (le-leb _ _ (c .if1 .taken))
 
--- src/lib.rt:24:11
 sub-result : tie.Need-sub-result
 sub-result c = search needs
 
--- src/lib.rt:24:6
 add-result : tie.Need-add-result
 add-result c = search needs
 
--- src/lib.rt:24:5
 div-result : tie.Need-div-result
 div-result c = search needs
 
--- src/lib.rt:17:1
 returns-2 : tie.Need-returns-2
 unfolding pieceCount
 returns-2 c = simp (lt-leb _ _ (c .if1 .left))

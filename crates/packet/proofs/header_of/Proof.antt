@@ -1,3 +1,4 @@
+-- `packet::header_of` meets its contract: fields in range make bytes, and the list is the definition's.
 use borrow.Author.Needs.{needs}
 use Prim.Native.Nat.{_<_}
 use mathlib.Core.List.{[], _∷_}
@@ -9,9 +10,6 @@ use Rattle.packet.specs.Parts.{filler}
 use Rattle.packet.proofs.Placing.{extended-range, standard-range}
 use Rattle.packet.proofs.header_of.Statement.{statement}
 use Rattle.packet.proofs.header_of.Tie as tie
-use Rattle.packet.proofs.header_of.Reads as reads
-use Rattle.packet.proofs.header_of.Lts as lts
-use Rattle.format.proofs.Flag.bits.Reads as bits-reads
 
 -- what is known of each field in the arm of each format
 extended : (c : tie.After-known-told)
@@ -26,114 +24,96 @@ standard : (c : tie.After-known-told2)
     → let f = c .before .fields2 .given .0 in Each (leb (f .0) 3 ∷ leb (f .1 .0) 63 ∷ leb (f .1 .1 .0) 1 ∷ [])
 standard c = standard-range _ _ _ _ (c .before .fields2 .given .1) (c .before .before .before .before .pre .0)
 
--- src/lib.rt:110:9
 bits-requires : tie.Need-bits-requires
 bits-requires c κs = search needs
 
--- src/lib.rt:113:13
 enum-known-fields : tie.Need-enum-known-fields
 enum-known-fields c = search needs
 
--- src/lib.rt:119:13
 add-t15 : tie.Need-add-t15
 add-t15 c = search needs
 
--- src/lib.rt:120:13
 mul-t16 : tie.Need-mul-t16
 mul-t16 c =
     let c3 = c .before .before .before in
     let c4 = c3 .before in
     record { fits = omega (tests, extended c, c3 .bits .ensures, bits-small (c4 .args .flag)) }
 
--- src/lib.rt:120:13
 add-t17 : tie.Need-add-t17
 add-t17 c =
     let c3 = c .before .before .before in
     let c4 = c3 .before in
     record { fits = omega (tests, extended c, c3 .bits .ensures, bits-small (c4 .args .flag)) }
 
--- src/lib.rt:121:13
 mul-t18 : tie.Need-mul-t18
 mul-t18 c =
     let c3 = c .before .before .before in
     let c4 = c3 .before in
     record { fits = omega (tests, extended c, c3 .bits .ensures, bits-small (c4 .args .flag)) }
 
--- src/lib.rt:121:13
 add-t19 : tie.Need-add-t19
 add-t19 c =
     let c3 = c .before .before .before in
     let c4 = c3 .before in
     record { fits = omega (tests, extended c, c3 .bits .ensures, bits-small (c4 .args .flag)) }
 
--- src/lib.rt:122:13
 mul-t20 : tie.Need-mul-t20
 mul-t20 c =
     let c3 = c .before .before .before in
     let c4 = c3 .before in
     record { fits = omega (tests, extended c, c3 .bits .ensures, bits-small (c4 .args .flag)) }
 
--- src/lib.rt:122:13
 add-t21 : tie.Need-add-t21
 add-t21 c =
     let c3 = c .before .before .before in
     let c4 = c3 .before in
     record { fits = omega (tests, extended c, c3 .bits .ensures, bits-small (c4 .args .flag)) }
 
--- src/lib.rt:123:13
 mul-t22 : tie.Need-mul-t22
 mul-t22 c =
     let c3 = c .before .before .before in
     let c4 = c3 .before in
     record { fits = omega (tests, extended c, c3 .bits .ensures, bits-small (c4 .args .flag)) }
 
--- src/lib.rt:127:13
 enum-known-fields-2 : tie.Need-enum-known-fields-2
 enum-known-fields-2 c = search needs
 
--- src/lib.rt:131:13
 mul-t23 : tie.Need-mul-t23
 mul-t23 c =
     let c3 = c .before .before .before in
     let c4 = c3 .before in
     record { fits = omega (tests, standard c, c3 .bits .ensures, bits-small (c4 .args .flag)) }
 
--- src/lib.rt:131:13
 add-t24 : tie.Need-add-t24
 add-t24 c =
     let c3 = c .before .before .before in
     let c4 = c3 .before in
     record { fits = omega (tests, standard c, c3 .bits .ensures, bits-small (c4 .args .flag)) }
 
--- src/lib.rt:132:13
 mul-t25 : tie.Need-mul-t25
 mul-t25 c =
     let c3 = c .before .before .before in
     let c4 = c3 .before in
     record { fits = omega (tests, standard c, c3 .bits .ensures, bits-small (c4 .args .flag)) }
 
--- src/lib.rt:132:26
 mul-t26 : tie.Need-mul-t26
 mul-t26 c =
     let c3 = c .before .before .before in
     let c4 = c3 .before in
     record { fits = omega (tests, standard c, c3 .bits .ensures, bits-small (c4 .args .flag)) }
 
--- src/lib.rt:132:13
 add-t27 : tie.Need-add-t27
 add-t27 c =
     let c3 = c .before .before .before in
     let c4 = c3 .before in
     record { fits = omega (tests, standard c, c3 .bits .ensures, bits-small (c4 .args .flag)) }
 
--- src/lib.rt:132:13
 add-t28 : tie.Need-add-t28
 add-t28 c =
     let c3 = c .before .before .before in
     let c4 = c3 .before in
     record { fits = omega (tests, standard c, c3 .bits .ensures, bits-small (c4 .args .flag)) }
 
--- src/lib.rt:106:1
 returns : tie.Need-returns
 unfolding header filler
 returns c =
@@ -141,7 +121,6 @@ returns c =
     let c3 = c1 .before .before in
     rw (c1 .fields .given .1, c3 .bits .ensures)
 
--- src/lib.rt:106:1
 returns-2 : tie.Need-returns-2
 unfolding header filler
 returns-2 c =

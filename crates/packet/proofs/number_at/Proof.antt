@@ -1,22 +1,18 @@
+-- `packet::number_at` meets its contract: a remainder by 256 at most is a byte.
 use borrow.Author.Needs.{needs}
 use native.Mathlib.Nat.{mod-lt}
 use native.Mathlib.Omega.{arith}
 use Rattle.packet.proofs.number_at.Statement.{statement}
 use Rattle.packet.proofs.number_at.Tie as tie
-use Rattle.packet.proofs.number_at.Reads as reads
-use Rattle.packet.proofs.number_at.Lts as lts
 
--- src/lib.rt:64:6
 rem-result : tie.Need-rem-result
 rem-result c = search needs
 
--- src/lib.rt:64:5
 cast-result : tie.Need-cast-result
 cast-result c =
     let a = c .args in
     record { fits = omega (arith, mod-lt (a .k) (c .pre .0)) }
 
--- src/lib.rt:60:1
 returns : tie.Need-returns
 returns c = search needs
 

@@ -1,3 +1,4 @@
+-- `packet::piece_count` meets its contract: SIZE or the count.
 use borrow.Author.Needs.{needs}
 use Prim.Native.Nat.{ℕ, _≤_, _<_}
 use mathlib.Core.Path.{ap, _∙_}
@@ -12,17 +13,10 @@ use Rattle.packet.specs.Split.{pieceCount}
 use Rattle.packet.specs.Send.{countOf}
 use Rattle.packet.proofs.piece_count.Statement.{statement}
 use Rattle.packet.proofs.piece_count.Tie as tie
-use Rattle.packet.proofs.piece_count.Reads as reads
-use Rattle.packet.proofs.piece_count.Lts as lts
-use Rattle.format.proofs.Format.packet_limit.Reads as packet-limit-reads
-use Rattle.format.proofs.Format.piece_size.Reads as piece-size-reads
-use Rattle.packet.proofs.count_of.Reads as count-of-reads
 
--- src/lib.rt:31:12
 packet-limit-requires : tie.Need-packet-limit-requires
 packet-limit-requires c κs = search needs
 
--- src/lib.rt:32:9
 returns : tie.Need-returns
 unfolding countOf
 returns c =
@@ -30,11 +24,9 @@ returns c =
     let h : packetLimit (a .format) < a .size = rw (c .before .packet-limit .ensures) at (c .if1 .taken) in
     stop Size _ _ (lt-leb _ _ h)
 
--- src/lib.rt:34:9
 piece-size-requires : tie.Need-piece-size-requires
 piece-size-requires c κs = search needs
 
--- src/lib.rt:35:9
 count-of-requires : tie.Need-count-of-requires
 count-of-requires c κs =
     let a = c .before .before .before .args in
@@ -42,7 +34,6 @@ count-of-requires c κs =
     let l = c .before .before .packet-limit .ensures in
     (omega (arith, some-bytes (a .format)), omega (arith, eight-bytes (a .format)), omega (arith, most-bytes (a .format)))
 
--- src/lib.rt:28:1
 returns-2 : tie.Need-returns-2
 unfolding countOf
 returns-2 c =

@@ -1,3 +1,4 @@
+-- `packet::place` meets its contract: ROOM, or the header and the bytes together are the image (Placing).
 use borrow.Author.Needs.{needs}
 use Prim.Native.Nat.{ℕ}
 use mathlib.Core.Path.{ap, _∙_}
@@ -10,23 +11,13 @@ use Rattle.packet.specs.Send.{over}
 use Rattle.packet.proofs.Placing.{no-room, has-room, image-size, image-led, head-six}
 use Rattle.packet.proofs.place.Statement.{statement}
 use Rattle.packet.proofs.place.Tie as tie
-use Rattle.packet.proofs.place.Reads as reads
-use Rattle.packet.proofs.place.Lts as lts
-use Rattle.format.proofs.Fields.format.Reads as format-reads
-use Rattle.format.proofs.Format.header_size.Reads as header-size-reads
-use Rattle.format.proofs.Format.packet_start.Reads as packet-start-reads
-use Rattle.packet.proofs.header_of.Reads as header-of-reads
-use Rattle.packet.proofs.put.Reads as put-reads
 
--- src/lib.rt:146:9
 format-requires : tie.Need-format-requires
 format-requires c κs = search needs
 
--- src/lib.rt:147:9
 packet-start-requires : tie.Need-packet-start-requires
 packet-start-requires c κs = search needs
 
--- src/lib.rt:148:16
 add-size : tie.Need-add-size
 add-size c =
     let c1 = c .before in
@@ -36,7 +27,6 @@ add-size c =
     let five = five-bytes (c1 .format .result) in
     record { fits = omega (arith, c .packet-start .ensures) }
 
--- src/lib.rt:150:9
 returns : tie.Need-returns
 returns c =
     let c1 = c .before in
@@ -47,11 +37,9 @@ returns c =
     let sized = image-size (a .flag) (a .number) (a .bytes .now) (a .fields) _ starts in
     no-room _ (a .output .now) _ sized (c .if1 .taken)
 
--- src/lib.rt:152:24
 header-size-requires : tie.Need-header-size-requires
 header-size-requires c κs = search needs
 
--- src/lib.rt:152:17
 sub-count : tie.Need-sub-count
 sub-count c =
     let c2 = c .before .before in
@@ -61,7 +49,6 @@ sub-count c =
     let near = start-near (c3 .format .result) (a .flag) in
     omega (arith, c2 .packet-start .ensures, c .header-size .ensures)
 
--- src/lib.rt:153:48
 cast-header-of : tie.Need-cast-header-of
 cast-header-of c =
     let c2 = c .before .before in
@@ -72,7 +59,6 @@ cast-header-of c =
     let five = five-bytes (c3 .format .result) in
     record { fits = omega (arith, c2 .packet-start .ensures, c .header-size .ensures) }
 
--- src/lib.rt:153:16
 header-of-requires : tie.Need-header-of-requires
 header-of-requires c κs =
     let c2 = c .before .before in
@@ -83,11 +69,9 @@ header-of-requires c κs =
     let five = five-bytes (c3 .format .result) in
     (c6 .pre .0, c6 .pre .1, omega (arith, c2 .packet-start .ensures, c .header-size .ensures))
 
--- src/lib.rt:154:9
 slice-aggregate-put : tie.Need-slice-aggregate-put
 slice-aggregate-put c = search needs
 
--- src/lib.rt:154:5
 put-requires : tie.Need-put-requires
 put-requires c κs =
     let c2 = c .before .before in
@@ -100,11 +84,9 @@ put-requires c κs =
     let six = head-six _ _ _ _ _ (c2 .header-of .ensures) in
     (omega (arith, c5 .packet-start .ensures), omega arith)
 
--- src/lib.rt:142:1
 same-length : tie.Need-same-length
 same-length c = search needs
 
--- src/lib.rt:142:1
 returns-2 : tie.Need-returns-2
 returns-2 c =
     let c2 = c .before .before in

@@ -1,3 +1,4 @@
+-- `packet::write_piece` meets its contract: each return is the first check that fails (Sending), or what `place` did.
 use borrow.Author.Needs.{needs}
 use Prim.Native.Nat.{ℕ, _%_}
 use mathlib.Core.Path.{ap, _∙_}
@@ -6,24 +7,10 @@ use Rattle.format.proofs.Limits.{some-numbers, range-small}
 use Rattle.packet.proofs.Sending.{bad-field, bad-size, sized, bad-index, cut, ready, whole}
 use Rattle.packet.proofs.write_piece.Statement.{statement}
 use Rattle.packet.proofs.write_piece.Tie as tie
-use Rattle.packet.proofs.write_piece.Reads as reads
-use Rattle.packet.proofs.write_piece.Lts as lts
-use Rattle.format.proofs.Fields.format.Reads as format-reads
-use Rattle.format.proofs.Fields.in_range.Reads as in-range-reads
-use Rattle.format.proofs.Format.number_range.Reads as number-range-reads
-use Rattle.format.proofs.Format.packet_limit.Reads as packet-limit-reads
-use Rattle.format.proofs.Format.piece_size.Reads as piece-size-reads
-use Rattle.packet.proofs.bytes_at.Reads as bytes-at-reads
-use Rattle.packet.proofs.count_of.Reads as count-of-reads
-use Rattle.packet.proofs.flag_at.Reads as flag-at-reads
-use Rattle.packet.proofs.number_at.Reads as number-at-reads
-use Rattle.packet.proofs.place.Reads as place-reads
 
--- src/lib.rt:164:9
 in-range-requires : tie.Need-in-range-requires
 in-range-requires c κs = search needs
 
--- src/lib.rt:165:9
 returns : tie.Need-returns
 returns c =
     let c1 = c .before in
@@ -31,15 +18,12 @@ returns c =
     let a = c4 .args in
     bad-field (a .fields) (a .packet .now) (a .k) (a .output .now) _ (c1 .in-range .ensures) (c .if1 .taken)
 
--- src/lib.rt:167:9
 format-requires : tie.Need-format-requires
 format-requires c κs = search needs
 
--- src/lib.rt:169:12
 packet-limit-requires : tie.Need-packet-limit-requires
 packet-limit-requires c κs = search needs
 
--- src/lib.rt:170:9
 returns-2 : tie.Need-returns-2
 returns-2 c =
     let c1 = c .before in
@@ -51,11 +35,9 @@ returns-2 c =
     bad-size (a .fields) (a .packet .now) (a .k) (a .output .now) _ (c4 .in-range .ensures) (c3 .if1 .left) _
     (c2 .format .ensures) _ (c1 .packet-limit .ensures) (omega arith)
 
--- src/lib.rt:172:9
 piece-size-requires : tie.Need-piece-size-requires
 piece-size-requires c κs = search needs
 
--- src/lib.rt:173:9
 count-of-requires : tie.Need-count-of-requires
 count-of-requires c κs =
     let c2 = c .before .before in
@@ -67,7 +49,6 @@ count-of-requires c κs =
     sized (a .fields) (a .packet .now) (a .k) (a .output .now) _ (c5 .in-range .ensures) (c4 .if1 .left) _
     (c3 .format .ensures) _ (c2 .packet-limit .ensures) (omega arith) _ (c .piece-size .ensures)
 
--- src/lib.rt:175:9
 returns-3 : tie.Need-returns-3
 returns-3 c =
     let c1 = c .before in
@@ -82,15 +63,12 @@ returns-3 c =
     (c5 .format .ensures) _ (c4 .packet-limit .ensures) (omega arith) _ (c2 .piece-size .ensures) _
     (c1 .count-of .ensures) (omega arith)
 
--- src/lib.rt:177:9
 flag-at-requires : tie.Need-flag-at-requires
 flag-at-requires c κs = search needs
 
--- src/lib.rt:178:9
 number-range-requires : tie.Need-number-range-requires
 number-range-requires c κs = search needs
 
--- src/lib.rt:179:9
 number-at-requires : tie.Need-number-at-requires
 number-at-requires c κs =
     let c7 = c .before .before .before .before .before .before .before in
@@ -98,7 +76,6 @@ number-at-requires c κs =
     let e = c .number-range .ensures in
     (omega (arith, some-numbers f), omega (arith, range-small f))
 
--- src/lib.rt:180:9
 bytes-at-requires : tie.Need-bytes-at-requires
 bytes-at-requires c κs =
     let c4 = c .before .before .before .before in
@@ -113,7 +90,6 @@ bytes-at-requires c κs =
     (c8 .format .ensures) _ (c7 .packet-limit .ensures) (omega arith) _ (c5 .piece-size .ensures) _
     (c4 .count-of .ensures) (omega arith)
 
--- src/lib.rt:181:5
 place-requires : tie.Need-place-requires
 place-requires c κs =
     let c1 = c .before in
@@ -133,11 +109,9 @@ place-requires c κs =
     (c6 .count-of .ensures) (omega arith) _ (c4 .flag-at .ensures) _
     (c2 .number-at .ensures ∙ ap (λ (m : ℕ). a .k % m) (c3 .number-range .ensures)) _ (c1 .bytes-at .ensures)
 
--- src/lib.rt:160:1
 same-length : tie.Need-same-length
 same-length c = search needs
 
--- src/lib.rt:160:1
 returns-4 : tie.Need-returns-4
 returns-4 c =
     let c2 = c .before .before in

@@ -1,25 +1,20 @@
+-- `format::Fields::in_range` meets its contract: by the arms: the tests of each format are those of the definition.
 use Rattle.format.specs.Formats.{inRange}
 use Rattle.format.specs.Tests.{all}
 use borrow.Author.Needs.{needs}
 use Rattle.format.proofs.Fields.in_range.Statement.{statement}
 use Rattle.format.proofs.Fields.in_range.Tie as tie
-use Rattle.format.proofs.Fields.in_range.Reads as reads
-use Rattle.format.proofs.Fields.in_range.Lts as lts
 
--- src/lib.rt:121:17
 enum-known-self : tie.Need-enum-known-self
 enum-known-self c = search needs
 
--- src/lib.rt:134:17
 enum-known-self-2 : tie.Need-enum-known-self-2
 enum-known-self-2 c = search needs
 
--- src/lib.rt:116:5
 returns : tie.Need-returns
 unfolding inRange all
 returns c = simp (c .before .self .given .1)
 
--- src/lib.rt:116:5
 returns-2 : tie.Need-returns-2
 unfolding inRange all
 returns-2 c = simp (c .before .self2 .given .1)

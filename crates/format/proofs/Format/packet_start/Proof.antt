@@ -1,37 +1,28 @@
+-- `format::Format::packet_start` meets its contract: by what `numbered` and `header_size` ensure; the header is short, so the sum fits.
 use borrow.Author.Needs.{needs}
 use mathlib.Core.Path.{sym, _∙_}
 use native.Mathlib.Omega.{arith}
 use Rattle.format.proofs.Limits.{five-bytes}
 use Rattle.format.proofs.Format.packet_start.Statement.{statement}
 use Rattle.format.proofs.Format.packet_start.Tie as tie
-use Rattle.format.proofs.Format.packet_start.Reads as reads
-use Rattle.format.proofs.Format.packet_start.Lts as lts
-use Rattle.format.proofs.Format.header_size.Reads as header-size-reads
-use Rattle.format.proofs.Format.numbered.Reads as numbered-reads
 
--- src/lib.rt:98:12
 numbered-requires : tie.Need-numbered-requires
 numbered-requires c κs = search needs
 
--- src/lib.rt:99:20
 header-size-requires : tie.Need-header-size-requires
 header-size-requires c κs = search needs
 
--- src/lib.rt:99:20
 add-result : tie.Need-add-result
 add-result c =
     let h = c .header-size .ensures in
     record { fits = omega (arith, five-bytes (c .before .before .before .args .self)) }
 
--- src/lib.rt:99:13
 returns : tie.Need-returns
 returns c = simp (sym (c .before .before .numbered .ensures) ∙ c .before .if1 .taken, c .header-size .ensures)
 
--- src/lib.rt:101:9
 header-size-requires-2 : tie.Need-header-size-requires-2
 header-size-requires-2 c κs = search needs
 
--- src/lib.rt:95:5
 returns-2 : tie.Need-returns-2
 returns-2 c = simp (sym (c .before .before .numbered .ensures) ∙ c .before .if1 .left, c .header-size2 .ensures)
 
