@@ -35,7 +35,7 @@ returns c =
     let a = c5 .args in
     let starts = c1 .packet-start .ensures ∙ ap (λ (f : Format). packetStart f (a .flag)) (c2 .format .ensures) in
     let sized = image-size (a .flag) (a .number) (a .bytes .now) (a .fields) _ starts in
-    no-room _ (a .output .now) _ sized (c .if1 .taken)
+    no-room _ (a .output .now) _ sized (omega arith)
 
 header-size-requires : tie.Need-header-size-requires
 header-size-requires c κs = search needs
@@ -102,7 +102,7 @@ returns-2 c =
     let heads = c6 .header-size .ensures ∙ ap headerSize (c9 .format .ensures) in
     let led = image-led (a .flag) (a .number) (a .bytes .now) (a .fields) _ starts _ heads _ (c5 .header-of .ensures)
     in
-    has-room _ (a .output .now) _ sized (c7 .if1 .left) _
+    has-room _ (a .output .now) _ sized (omega arith) _
     (c2 .put .ensures ∙ ap (λ (x : List ℕ). over x (a .output .now)) led)
 
 pub place-spec : {M : Type 1} → statement M
