@@ -1,13 +1,13 @@
 -- The checks of sending, one after the other, for the code that makes them.
 use Prim.Native.Nat.{ℕ, _%_, _≤_, _<_}
-use mathlib.Core.Path.{_≡_, refl, sym, _∙_}
-use mathlib.Core.Bool.{Bool, true, false, not}
+use mathlib.Core.Path.{_≡_, refl, sym}
+use mathlib.Core.Bool.{Bool, true, false}
 use mathlib.Core.List.{List}
 use native.Mathlib.Nat.{mod-lt}
 use native.Mathlib.Omega.{arith}
-use lib.Dec.{leb, ltb}
+use lib.Dec.{leb}
 use lib.ListN.{length, length-take}
-use borrow.Author.Tests.{leb-true, leb-false, le-leb, lt-leb, lt-ltb, le-ltb, not-true, not-false}
+use borrow.Author.Tests.{leb-true, leb-false, le-leb, lt-leb, lt-ltb, le-ltb}
 use Rattle.format.specs.declared.Fields.{Fields}
 use Rattle.format.specs.declared.Format.{Format}
 use Rattle.format.specs.declared.Flag.{Flag}
@@ -37,62 +37,71 @@ abbrev Sent : Fields → List ℕ → ℕ → List ℕ → Outcome → List ℕ 
 Sent fields packet k output r last =
     (meaning r ≡ answer (send fields packet k (length output))) × (last ≡ after (send fields packet k (length output)) output)
 
+-- what the code knows once the packet fits its format: z is the piece size
+pub record Sized (fields : Fields) (packet : List ℕ) (format : Format) (z : ℕ) : Type 0 where
+  pub range : inRange fields ≡ true
+  pub of-format : format ≡ formatOf fields
+  pub within : length packet ≤ packetLimit format
+  pub size : z ≡ pieceSize format
+
+-- and once there is a piece k
+pub record Indexed (fields : Fields) (packet : List ℕ) (k : ℕ) (format : Format) (z count : ℕ) : Type 0 where
+  pub sized : Sized fields packet format z
+  pub counted : count ≡ pieceCount z (length packet)
+  pub index : k < count
+
+pub sizes : {fields : Fields} {packet : List ℕ} {format : Format} {z : ℕ} → Sized fields packet format z
+    → (0 < z) × (z ≤ 8) × (length packet ≤ 2048)
+sizes {format} s =
+    let e = s .size in
+    let w = s .within in
+    (omega (arith, some-bytes format), omega (arith, eight-bytes format), omega (arith, most-bytes format))
+
 module _ (fields : Fields) (packet : List ℕ) (k : ℕ) (output : List ℕ) where
   as-refused : (name : Refusal) → refused (number name) ≡ send fields packet k (length output) → Sent fields packet k output (Refused name) output
   as-refused name e = (rw (sym e), rw (sym e))
 
-  module _ (ok : Bool) (eo : ok ≡ inRange fields) where
-    pub bad-field : not ok ≡ true → Sent fields packet k output (Refused Field) output
+  pub bad-field : inRange fields ≡ false → Sent fields packet k output (Refused Field) output
+  unfolding send
+  bad-field h = as-refused Field (stop Field _ _ h)
+
+  pub bad-size : inRange fields ≡ true → (format : Format) → format ≡ formatOf fields → packetLimit format < length packet
+      → Sent fields packet k output (Refused Size) output
+  unfolding send
+  bad-size r format e h =
+      let m : packetLimit (formatOf fields) < length packet = rw (← e) h in
+      as-refused Size (pass Field _ _ r (stop Size _ _ (lt-leb _ _ m)))
+
+  module _ (format : Format) (z : ℕ) (s : Sized fields packet format z) (count : ℕ) (ec : count ≡ pieceCount z (length packet)) where
+    within-limit : leb (length packet) (packetLimit (formatOf fields)) ≡ true
+    within-limit = let m : length packet ≤ packetLimit (formatOf fields) = rw (← s .of-format) (s .within) in le-leb _ _ m
+
+    pub bad-index : count ≤ k → Sent fields packet k output (Refused Index) output
     unfolding send
-    bad-field h = as-refused Field (stop Field _ _ (sym eo ∙ not-true ok h))
+    bad-index h =
+        let m : pieceCount (pieceSize (formatOf fields)) (length packet) ≤ k = rw (← s .of-format, ← s .size, ← ec) h in
+        as-refused Index (pass Field _ _ (s .range) (pass Size _ _ within-limit (stop Index _ _ (le-ltb _ _ m))))
 
-    module _ (good : not ok ≡ false) where
-      pub fields-good : inRange fields ≡ true
-      fields-good = sym eo ∙ not-false ok good
+    -- then only ROOM is left
+    is-placed : k < count → placed (piece fields packet k) (length output) ≡ send fields packet k (length output)
+    unfolding placed send
+    is-placed h =
+        let m : k < pieceCount (pieceSize (formatOf fields)) (length packet) = rw (← s .of-format, ← s .size, ← ec) h in
+        pass Field _ _ (s .range) (pass Size _ _ within-limit (pass Index _ _ (lt-ltb _ _ m) refl))
 
-      module _ (format : Format) (ef : format ≡ formatOf fields) (limit : ℕ) (el : limit ≡ packetLimit format) where
-        pub bad-size : limit < length packet → Sent fields packet k output (Refused Size) output
-        unfolding send
-        bad-size h =
-            let m : packetLimit (formatOf fields) < length packet = rw (← ef, ← el) h in
-            as-refused Size (pass Field _ _ fields-good (stop Size _ _ (lt-leb _ _ m)))
+-- piece k as the code has it: flag, number n and bytes
+module _ {fields : Fields} {packet : List ℕ} {k : ℕ} {format : Format} {z count : ℕ} (i : Indexed fields packet k format z count) (flag : Flag) (eg : flag ≡ pieceFlag count k) (n : ℕ) (en : n ≡ k % numberRange format) (bytes : List ℕ) (eb : bytes ≡ pieceBytes z packet k) where
+  pub ready : (inRange fields ≡ true) × (n < numberRange (formatOf fields)) × (length bytes ≤ 8)
+  ready =
+      let s = i .sized in
+      (s .range, rw (en, s .of-format) (mod-lt k (some-numbers (formatOf fields))), rw eb (bytes-small z packet k (sizes s .1)))
 
-        module _ (size : length packet ≤ limit) (z : ℕ) (ez : z ≡ pieceSize format) where
-          pub sized : (0 < z) × (z ≤ 8) × (length packet ≤ 2048)
-          sized = (omega (arith, some-bytes format), omega (arith, eight-bytes format), omega (arith, most-bytes format))
+  is-piece : frameOf fields flag n bytes ≡ piece fields packet k
+  unfolding piece
+  is-piece = let s = i .sized in rw (eg, en, eb, i .counted, s .size, s .of-format)
 
-          size-good : leb (length packet) (packetLimit (formatOf fields)) ≡ true
-          size-good = let m : length packet ≤ packetLimit (formatOf fields) = rw (← ef, ← el) size in le-leb _ _ m
-
-          module _ (count : ℕ) (ec : count ≡ pieceCount z (length packet)) where
-            counted : count ≡ pieceCount (pieceSize (formatOf fields)) (length packet)
-            counted = rw (← ef, ← ez) ec
-
-            pub bad-index : count ≤ k → Sent fields packet k output (Refused Index) output
-            unfolding send
-            bad-index h =
-                let m : pieceCount (pieceSize (formatOf fields)) (length packet) ≤ k = rw (← counted) h in
-                as-refused Index (pass Field _ _ fields-good (pass Size _ _ size-good (stop Index _ _ (le-ltb _ _ m))))
-
-            module _ (index : k < count) where
-              pub cut : (0 < z) × (z ≤ 8) × (length packet ≤ 2048) × (k < pieceCount z (length packet))
-              cut = (sized .0, sized .1, sized .2, rw ec at index)
-
-              index-good : ltb k (pieceCount (pieceSize (formatOf fields)) (length packet)) ≡ true
-              index-good = let m : k < pieceCount (pieceSize (formatOf fields)) (length packet) = rw (← counted) index in lt-ltb _ _ m
-
-              module _ (flag : Flag) (eg : flag ≡ pieceFlag count k) (n : ℕ) (en : n ≡ k % numberRange format) (bytes : List ℕ) (eb : bytes ≡ pieceBytes z packet k) where
-                pub ready : (inRange fields ≡ true) × (n < numberRange (formatOf fields)) × (length bytes ≤ 8)
-                ready =
-                    (fields-good, rw (en, ef) (mod-lt k (some-numbers (formatOf fields))), rw eb (bytes-small z packet k (sized .1)))
-
-                is-piece : frameOf fields flag n bytes ≡ piece fields packet k
-                unfolding piece
-                is-piece = rw (eg, en, eb, ec, ez, ef)
-
-                is-placed : placed (piece fields packet k) (length output) ≡ send fields packet k (length output)
-                unfolding placed send
-                is-placed = pass Field _ _ fields-good (pass Size _ _ size-good (pass Index _ _ index-good refl))
-
-                pub whole : (r : Outcome) (last : List ℕ) → Placed (frameOf fields flag n bytes) output r last → Sent fields packet k output r last
-                whole r last p = let q = rw is-piece at p in (rw (sym is-placed) (q .answers), rw (sym is-placed) (q .leaves))
+  pub whole : (output : List ℕ) (r : Outcome) (last : List ℕ) → Placed (frameOf fields flag n bytes) output r last → Sent fields packet k output r last
+  whole output r last p =
+      let q = rw is-piece at p in
+      let e = is-placed fields packet k output format z (i .sized) count (i .counted) (i .index) in
+      (rw (sym e) (q .answers), rw (sym e) (q .leaves))

@@ -1,6 +1,6 @@
 -- `packet::header_of` meets its contract: fields in range make bytes, and the list is the definition's.
 use borrow.Author.Needs.{needs}
-use Prim.Native.Nat.{_<_}
+use Prim.Native.Nat.{_≤_, _<_}
 use mathlib.Core.List.{[], _∷_}
 use lib.Dec.{leb}
 use Rattle.format.proofs.Tests.{Each, tests}
@@ -11,18 +11,25 @@ use Rattle.packet.proofs.Placing.{extended-range, standard-range}
 use Rattle.packet.proofs.header_of.Statement.{statement}
 use Rattle.packet.proofs.header_of.Tie as tie
 
--- what is known of each field in the arm of each format
+-- what is known of each number in the arm of each format
 extended : (c : tie.After-known-told)
     → let f = c .before .fields .given .0 in
+    let s = c .before .before .before in
     Each (leb (f .0) 3 ∷ leb (f .1 .0) 63 ∷ leb (f .1 .1 .0) 3 ∷ leb (f .1 .1 .1 .0) 63 ∷ leb (f .1 .1 .1 .1 .0) 31 ∷ [])
-    × (c .before .before .before .before .args .number < 64)
+    × (s .before .args .number < 64)
+    × (s .bits .result ≤ 3)
 extended c =
-    let s = c .before .before .before .before in
-    extended-range _ _ _ _ _ _ _ (c .before .fields .given .1) (s .pre .0) (s .pre .1)
+    let s = c .before .before .before in
+    let p = s .before .pre in
+    let r = extended-range _ _ _ _ _ _ _ (c .before .fields .given .1) (p .0) (p .1) in
+    (r .0, r .1, rw (s .bits .ensures) (bits-small (s .before .args .flag)))
 
 standard : (c : tie.After-known-told2)
-    → let f = c .before .fields2 .given .0 in Each (leb (f .0) 3 ∷ leb (f .1 .0) 63 ∷ leb (f .1 .1 .0) 1 ∷ [])
-standard c = standard-range _ _ _ _ (c .before .fields2 .given .1) (c .before .before .before .before .pre .0)
+    → let f = c .before .fields2 .given .0 in
+    Each (leb (f .0) 3 ∷ leb (f .1 .0) 63 ∷ leb (f .1 .1 .0) 1 ∷ []) × (c .before .before .before .bits .result ≤ 3)
+standard c =
+    let s = c .before .before .before in
+    (standard-range _ _ _ _ (c .before .fields2 .given .1) (s .before .pre .0), rw (s .bits .ensures) (bits-small (s .before .args .flag)))
 
 bits-requires : tie.Need-bits-requires
 bits-requires c κs = search needs
@@ -34,85 +41,46 @@ add-t15 : tie.Need-add-t15
 add-t15 c = search needs
 
 mul-t16 : tie.Need-mul-t16
-mul-t16 c =
-    let c3 = c .before .before .before in
-    let c4 = c3 .before in
-    record { fits = omega (tests, extended c, c3 .bits .ensures, bits-small (c4 .args .flag)) }
+mul-t16 c = record { fits = omega (tests, extended c) }
 
 add-t17 : tie.Need-add-t17
-add-t17 c =
-    let c3 = c .before .before .before in
-    let c4 = c3 .before in
-    record { fits = omega (tests, extended c, c3 .bits .ensures, bits-small (c4 .args .flag)) }
+add-t17 c = record { fits = omega (tests, extended c) }
 
 mul-t18 : tie.Need-mul-t18
-mul-t18 c =
-    let c3 = c .before .before .before in
-    let c4 = c3 .before in
-    record { fits = omega (tests, extended c, c3 .bits .ensures, bits-small (c4 .args .flag)) }
+mul-t18 c = record { fits = omega (tests, extended c) }
 
 add-t19 : tie.Need-add-t19
-add-t19 c =
-    let c3 = c .before .before .before in
-    let c4 = c3 .before in
-    record { fits = omega (tests, extended c, c3 .bits .ensures, bits-small (c4 .args .flag)) }
+add-t19 c = record { fits = omega (tests, extended c) }
 
 mul-t20 : tie.Need-mul-t20
-mul-t20 c =
-    let c3 = c .before .before .before in
-    let c4 = c3 .before in
-    record { fits = omega (tests, extended c, c3 .bits .ensures, bits-small (c4 .args .flag)) }
+mul-t20 c = record { fits = omega (tests, extended c) }
 
 add-t21 : tie.Need-add-t21
-add-t21 c =
-    let c3 = c .before .before .before in
-    let c4 = c3 .before in
-    record { fits = omega (tests, extended c, c3 .bits .ensures, bits-small (c4 .args .flag)) }
+add-t21 c = record { fits = omega (tests, extended c) }
 
 mul-t22 : tie.Need-mul-t22
-mul-t22 c =
-    let c3 = c .before .before .before in
-    let c4 = c3 .before in
-    record { fits = omega (tests, extended c, c3 .bits .ensures, bits-small (c4 .args .flag)) }
+mul-t22 c = record { fits = omega (tests, extended c) }
 
 enum-known-fields-2 : tie.Need-enum-known-fields-2
 enum-known-fields-2 c = search needs
 
 mul-t23 : tie.Need-mul-t23
-mul-t23 c =
-    let c3 = c .before .before .before in
-    let c4 = c3 .before in
-    record { fits = omega (tests, standard c, c3 .bits .ensures, bits-small (c4 .args .flag)) }
+mul-t23 c = record { fits = omega (tests, standard c) }
 
 add-t24 : tie.Need-add-t24
-add-t24 c =
-    let c3 = c .before .before .before in
-    let c4 = c3 .before in
-    record { fits = omega (tests, standard c, c3 .bits .ensures, bits-small (c4 .args .flag)) }
+add-t24 c = record { fits = omega (tests, standard c) }
 
 mul-t25 : tie.Need-mul-t25
-mul-t25 c =
-    let c3 = c .before .before .before in
-    let c4 = c3 .before in
-    record { fits = omega (tests, standard c, c3 .bits .ensures, bits-small (c4 .args .flag)) }
+mul-t25 c = record { fits = omega (tests, standard c) }
 
 mul-t26 : tie.Need-mul-t26
-mul-t26 c =
-    let c3 = c .before .before .before in
-    let c4 = c3 .before in
-    record { fits = omega (tests, standard c, c3 .bits .ensures, bits-small (c4 .args .flag)) }
+mul-t26 c = record { fits = omega (tests, standard c) }
 
 add-t27 : tie.Need-add-t27
-add-t27 c =
-    let c3 = c .before .before .before in
-    let c4 = c3 .before in
-    record { fits = omega (tests, standard c, c3 .bits .ensures, bits-small (c4 .args .flag)) }
+add-t27 c = record { fits = omega (tests, standard c) }
 
 add-t28 : tie.Need-add-t28
-add-t28 c =
-    let c3 = c .before .before .before in
-    let c4 = c3 .before in
-    record { fits = omega (tests, standard c, c3 .bits .ensures, bits-small (c4 .args .flag)) }
+add-t28 c = record { fits = omega (tests, standard c) }
 
 returns : tie.Need-returns
 unfolding header filler

@@ -1,16 +1,42 @@
 -- `packet::place` meets its contract: ROOM, or the header and the bytes together are the image (Placing).
 use borrow.Author.Needs.{needs}
-use Prim.Native.Nat.{ℕ}
-use mathlib.Core.Path.{ap, _∙_}
+use Prim.Native.Nat.{ℕ, _+_, _≤_}
+use mathlib.Core.Path.{_≡_, ap, _∙_}
 use mathlib.Core.List.{List}
 use native.Mathlib.Omega.{arith}
+use lib.ListN.{length}
 use Rattle.format.specs.declared.Format.{Format}
-use Rattle.format.specs.Formats.{headerSize, packetStart}
+use Rattle.format.specs.Formats.{headerSize, packetStart, formatOf}
 use Rattle.format.proofs.Limits.{five-bytes, start-near}
+use Rattle.frame.specs.Image.{imageOf}
+use Rattle.packet.specs.Split.{frameOf}
 use Rattle.packet.specs.Send.{over}
 use Rattle.packet.proofs.Placing.{no-room, has-room, image-size, image-led, head-six}
 use Rattle.packet.proofs.place.Statement.{statement}
 use Rattle.packet.proofs.place.Tie as tie
+
+-- where the packet bytes begin, once the code knows it: after the header or one byte on
+near : (c : tie.After-packet-start)
+    → let f = c .before .format .result in
+    let start = c .packet-start .result in
+    (headerSize f ≤ start) × (start ≤ headerSize f + 1) × (headerSize f ≤ 5)
+near c =
+    let f = c .before .format .result in
+    let n = start-near f (c .before .before .before .before .args .flag) in
+    let e = c .packet-start .ensures in
+    (rw e (n .0), rw e (n .1), five-bytes f)
+
+-- and how long the image is
+starts : (c : tie.After-packet-start)
+    → let a = c .before .before .before .before .args in c .packet-start .result ≡ packetStart (formatOf (a .fields)) (a .flag)
+starts c =
+    let a = c .before .before .before .before .args in
+    c .packet-start .ensures ∙ ap (λ (f : Format). packetStart f (a .flag)) (c .before .format .ensures)
+
+sized : (c : tie.After-packet-start)
+    → let a = c .before .before .before .before .args in
+    length (imageOf (frameOf (a .fields) (a .flag) (a .number) (a .bytes .now))) ≡ c .packet-start .result + length (a .bytes .now)
+sized c = let a = c .before .before .before .before .args in image-size (a .flag) (a .number) (a .bytes .now) (a .fields) _ (starts c)
 
 format-requires : tie.Need-format-requires
 format-requires c κs = search needs
@@ -19,91 +45,46 @@ packet-start-requires : tie.Need-packet-start-requires
 packet-start-requires c κs = search needs
 
 add-size : tie.Need-add-size
-add-size c =
-    let c1 = c .before in
-    let c4 = c1 .before .before .before in
-    let a = c4 .args in
-    let near = start-near (c1 .format .result) (a .flag) in
-    let five = five-bytes (c1 .format .result) in
-    record { fits = omega (arith, c .packet-start .ensures) }
+add-size c = record { fits = omega (arith, near c) }
 
 returns : tie.Need-returns
-returns c =
-    let c1 = c .before in
-    let c2 = c1 .before in
-    let c5 = c2 .before .before .before in
-    let a = c5 .args in
-    let starts = c1 .packet-start .ensures ∙ ap (λ (f : Format). packetStart f (a .flag)) (c2 .format .ensures) in
-    let sized = image-size (a .flag) (a .number) (a .bytes .now) (a .fields) _ starts in
-    no-room _ (a .output .now) _ sized (omega arith)
+returns c = no-room _ _ _ (sized (c .before)) (omega arith)
 
 header-size-requires : tie.Need-header-size-requires
 header-size-requires c κs = search needs
 
 sub-count : tie.Need-sub-count
-sub-count c =
-    let c2 = c .before .before in
-    let c3 = c2 .before in
-    let c6 = c3 .before .before .before in
-    let a = c6 .args in
-    let near = start-near (c3 .format .result) (a .flag) in
-    omega (arith, c2 .packet-start .ensures, c .header-size .ensures)
+sub-count c = omega (arith, near (c .before .before), c .header-size .ensures)
 
 cast-header-of : tie.Need-cast-header-of
-cast-header-of c =
-    let c2 = c .before .before in
-    let c3 = c2 .before in
-    let c6 = c3 .before .before .before in
-    let a = c6 .args in
-    let near = start-near (c3 .format .result) (a .flag) in
-    let five = five-bytes (c3 .format .result) in
-    record { fits = omega (arith, c2 .packet-start .ensures, c .header-size .ensures) }
+cast-header-of c = record { fits = omega (arith, near (c .before .before), c .header-size .ensures) }
 
 header-of-requires : tie.Need-header-of-requires
 header-of-requires c κs =
-    let c2 = c .before .before in
-    let c3 = c2 .before in
-    let c6 = c3 .before .before .before in
-    let a = c6 .args in
-    let near = start-near (c3 .format .result) (a .flag) in
-    let five = five-bytes (c3 .format .result) in
-    (c6 .pre .0, c6 .pre .1, omega (arith, c2 .packet-start .ensures, c .header-size .ensures))
+    let p = c .before .before .before .before .before .before .pre in
+    (p .0, p .1, omega (arith, near (c .before .before), c .header-size .ensures))
 
 slice-aggregate-put : tie.Need-slice-aggregate-put
 slice-aggregate-put c = search needs
 
 put-requires : tie.Need-put-requires
 put-requires c κs =
-    let c2 = c .before .before in
-    let c5 = c2 .before .before .before in
-    let c6 = c5 .before in
-    let c9 = c6 .before .before .before in
-    let a = c9 .args in
-    let near = start-near (c6 .format .result) (a .flag) in
-    let five = five-bytes (c6 .format .result) in
-    let six = head-six _ _ _ _ _ (c2 .header-of .ensures) in
-    (omega (arith, c5 .packet-start .ensures), omega arith)
+    let m = c .before .before in
+    let six = head-six _ _ _ _ _ (m .header-of .ensures) in
+    (omega (arith, near (m .before .before .before)), omega arith)
 
 same-length : tie.Need-same-length
 same-length c = search needs
 
 returns-2 : tie.Need-returns-2
 returns-2 c =
-    let c2 = c .before .before in
-    let c5 = c2 .before .before .before in
-    let c6 = c5 .before in
-    let c7 = c6 .before in
-    let c8 = c7 .before in
-    let c9 = c8 .before in
-    let c12 = c9 .before .before .before in
-    let a = c12 .args in
-    let starts = c8 .packet-start .ensures ∙ ap (λ (f : Format). packetStart f (a .flag)) (c9 .format .ensures) in
-    let sized = image-size (a .flag) (a .number) (a .bytes .now) (a .fields) _ starts in
-    let heads = c6 .header-size .ensures ∙ ap headerSize (c9 .format .ensures) in
-    let led = image-led (a .flag) (a .number) (a .bytes .now) (a .fields) _ starts _ heads _ (c5 .header-of .ensures)
-    in
-    has-room _ (a .output .now) _ sized (omega arith) _
-    (c2 .put .ensures ∙ ap (λ (x : List ℕ). over x (a .output .now)) led)
+    let m = c .before .before .before .before .before in
+    let s = m .before .before .before in
+    let a = s .before .before .before .before .args in
+    let heads = m .before .header-size .ensures ∙ ap headerSize (s .before .format .ensures) in
+    let led = image-led (a .flag) (a .number) (a .bytes .now) (a .fields) _ (starts s) _ heads _ (m .header-of .ensures) in
+    has-room _ (a .output .now) _ (sized s) (omega arith) _
+    (c .before .before .put .ensures ∙ ap (λ (x : List ℕ). over x (a .output .now)) led)
 
 pub place-spec : {M : Type 1} → statement M
 place-spec =
