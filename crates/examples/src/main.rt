@@ -175,6 +175,7 @@ fn extended_rules() {
     );
     show_judged(extended, b"\x81\x06\x00\x81\x10\x39");
     show_judged(extended, b"\x80\x06\x00\x81\x10");
+    show_judged(extended, b"\xD1\x45\x00\xC1");
     show_judged(
         extended,
         b"\x88\x06\x00\x41\x10\x30\x30\x34\x31\x32\x37\x30\x31",
@@ -186,6 +187,31 @@ fn extended_rules() {
     show_judged(
         extended,
         b"\x87\x06\x00\x01\x10\x30\x30\x34\x31\x32\x37\x30",
+    );
+}
+
+// Sound images with eight data bytes, of each flag.
+fn extended_filled() {
+    let extended = Format::Extended;
+    show_judged(
+        extended,
+        b"\x88\x06\x00\x40\x10\x30\x30\x34\x31\x32\x37\x30\x31",
+    );
+    show_judged(
+        extended,
+        b"\x88\x06\x00\x02\x10\x30\x30\x34\x31\x32\x37\x30\x31",
+    );
+    show_judged(
+        extended,
+        b"\x88\x06\x00\x83\x10\x30\x30\x34\x31\x32\x37\x30\x31",
+    );
+    show_judged(
+        extended,
+        b"\x88\x06\x00\xC0\x10\x30\x30\x34\x31\x32\x37\x30\x31",
+    );
+    show_judged(
+        Format::Standard,
+        b"\x96\xE8\x30\x30\x34\x31\x32\x37\x30\x31",
     );
 }
 
@@ -331,6 +357,8 @@ fn field_ranges() {
 fn ends(fields: Fields, packet: &[u8]) {
     piece(fields, packet, 0, 14);
     piece(fields, packet, 1, 14);
+    piece(fields, packet, 2, 14);
+    piece(fields, packet, 3, 14);
     piece(fields, packet, 63, 14);
     piece(fields, packet, 64, 14);
     piece(fields, packet, 254, 14);
@@ -338,12 +366,23 @@ fn ends(fields: Fields, packet: &[u8]) {
     piece(fields, packet, 256, 14);
 }
 
+// A packet over the limit, with no such piece; and with a field out of range, which comes first.
+fn too_long(fields: Fields, packet: &[u8]) {
+    piece(fields, packet, 999, 3);
+    let wrong = Fields::Standard {
+        priority: 4,
+        address: 22,
+        side: 1,
+    };
+    piece(wrong, packet, 999, 3);
+}
+
 // A packet as long as the format takes, and one a byte longer.
 fn long_packets(fields: Fields, packet: &[u8], longest: usize) {
     if longest < packet.len() {
         ends(fields, &packet[..longest]);
         let over = longest + 1;
-        piece(fields, &packet[..over], 999, 3);
+        too_long(fields, &packet[..over]);
     }
 }
 
@@ -364,7 +403,7 @@ fn show_refusal(name: &[u8], refusal: Refusal) {
 }
 
 // The refusals' names and numbers.
-fn numbers_of_images() {
+fn first_numbers() {
     show_refusal(b"LENGTH", Refusal::Length);
     show_refusal(b"FORM", Refusal::Form);
     show_refusal(b"REMOTE", Refusal::Remote);
@@ -377,7 +416,7 @@ fn numbers_of_images() {
     show_refusal(b"SIZE", Refusal::Size);
 }
 
-fn numbers_of_calls() {
+fn last_numbers() {
     show_refusal(b"INDEX", Refusal::Index);
     show_refusal(b"ROOM", Refusal::Room);
     show_refusal(b"STORE", Refusal::Store);
@@ -394,6 +433,7 @@ fn numbers_of_calls() {
 fn main() {
     extended_images();
     extended_rules();
+    extended_filled();
     standard_images();
     standard_rules();
     extended_counts();
@@ -401,8 +441,8 @@ fn main() {
     short_packets();
     refusals();
     field_ranges();
-    numbers_of_images();
-    numbers_of_calls();
+    first_numbers();
+    last_numbers();
     let mut packet = [0u8; 2049];
     fill(&mut packet);
     let fields = Fields::Extended {

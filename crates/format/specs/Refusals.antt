@@ -1,4 +1,4 @@
--- Document 01, "Refusal numbers": the table, and its order. "Each returns its number."
+-- Document 01, "Refusal numbers": the table's numbers and names, "Each returns its number", and what an order of refusals means.
 use Prim.Native.Nat.{ℕ}
 use mathlib.Core.Bool.{Bool, cond}
 use mathlib.Core.List.{List, [], _∷_}

@@ -1,4 +1,4 @@
--- What is proved of frame images, in both formats; proofs/Images.antt has the proofs.
+-- What is proved of frame images, in both formats; proofs/Images.antt and, of the last claim, proofs/Verdicts.antt have the proofs.
 use Prim.Native.Nat.{ℕ, _≤_, _<_}
 use mathlib.Core.Path.{_≡_}
 use mathlib.Core.Bool.{true}

@@ -1,5 +1,4 @@
 // Frame images: what the bytes of one image say, and whether they are a sound frame.
-use format::Extended;
 use format::Fields;
 use format::Flag;
 use format::Format;
@@ -67,6 +66,7 @@ fn layout_extended(image: &[u8]) -> Layout
     let b3 = image[3];
     let b4 = image[4];
     let flag = flag_of(b3 / 64);
+    let start = Format::Extended.packet_start(flag);
     let fields = Fields::Extended {
         priority: b1 / 64,
         source: b1 % 64,
@@ -81,7 +81,7 @@ fn layout_extended(image: &[u8]) -> Layout
         fields: fields,
         flag: flag,
         number: b3 % 64,
-        start: Extended::HEADER_SIZE,
+        start: start,
     }
 }
 
@@ -184,6 +184,7 @@ pub fn judge(format: Format, image: &[u8]) -> Verdict
         return Verdict::Refused(Refusal::Length);
     }
     let l = layout_of(format, image);
+    // What the two tests ask; their order is the order of the refusals.
     let formed = l.fixed;
     let data_frame = l.rtr == 0;
     if !formed {

@@ -1,19 +1,97 @@
 -- The table, computed.
-use mathlib.Core.Path.{refl}
+use Prim.Native.Nat.{ℕ, _+_, _*_, _%_}
+use mathlib.Core.Path.{_≡_, refl}
+use mathlib.Core.List.{List}
+use lib.ListN.{length, getD}
+use Rattle.format.specs.declared.Fields.the-variants.{Extended}
 use Rattle.format.specs.Tests.{allAfter, all}
-use Rattle.format.specs.Formats.{inRange}
+use Rattle.format.specs.Formats.{flagBits}
 use Rattle.format.specs.Refusals.{guarded}
 use Rattle.frame.specs.Layout.{flagOf, layout}
 use Rattle.frame.specs.Judge.{pieceRule, checks, judge}
 use Rattle.frame.specs.Image.{header, imageOf}
-use Rattle.packet.specs.Split.{pieceCount, pieceFlag, pieceBytes, piece}
-use Rattle.packet.specs.Send.{countOf, send}
-use Rattle.packet.specs.Examples.{table, given, stated, ExamplesHold, ByteThree}
+use Rattle.packet.specs.Split.{pieceCount, pieceFlag, piece}
+use Rattle.packet.specs.Send.{countOf}
+use Rattle.packet.specs.Examples.{ExamplesHold}
+
+-- byte 3 of piece k depends on the packet's size and k alone
+byte-three : (k size : ℕ) (priority source group destination function : ℕ) (packet : List ℕ) → length packet ≡ size
+    → getD (imageOf (piece (Extended priority source group destination function) packet k)) 3 256 ≡ 64 * flagBits (pieceFlag (pieceCount 8 size) k) + k % 64
+unfolding imageOf header piece
+byte-three k size priority source group destination function packet e = rw e
 
 pub examples : ExamplesHold
-unfolding ExamplesHold table given stated allAfter all inRange guarded flagOf layout pieceRule checks judge header imageOf pieceCount pieceFlag pieceBytes piece countOf send
-examples = refl
-
-pub byte-three : ByteThree
-unfolding ByteThree imageOf header piece
-byte-three priority source group destination function packet packet′ k e = rw e
+unfolding ExamplesHold allAfter all guarded flagOf layout pieceRule checks judge pieceCount pieceFlag countOf
+examples = (
+  refl,
+  (
+    refl,
+    (
+      refl,
+      (
+        refl,
+        (
+          refl,
+          (
+            refl,
+            (
+              refl,
+              (
+                refl,
+                (
+                  refl,
+                  (
+                    refl,
+                    (
+                      refl,
+                      (
+                        refl,
+                        (
+                          refl,
+                          (
+                            refl,
+                            (
+                              refl,
+                              (
+                                refl,
+                                (
+                                  refl,
+                                  (
+                                    refl,
+                                    (
+                                      refl,
+                                      (
+                                        refl,
+                                        (
+                                          refl,
+                                          (
+                                            refl,
+                                            (
+                                              refl,
+                                              (
+                                                refl,
+                                                (byte-three 64 2048, (byte-three 255 2048, tt)),
+                                              ),
+                                            ),
+                                          ),
+                                        ),
+                                      ),
+                                    ),
+                                  ),
+                                ),
+                              ),
+                            ),
+                          ),
+                        ),
+                      ),
+                    ),
+                  ),
+                ),
+              ),
+            ),
+          ),
+        ),
+      ),
+    ),
+  ),
+)

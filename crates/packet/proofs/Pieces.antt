@@ -8,7 +8,7 @@ use native.Mathlib.Omega.{arith}
 use lib.Dec.{leb, eqb}
 use lib.ListN.{length, drop, getD, length-take, length-drop, take-append-drop, drop-of-length-le}
 use lib.Seq.{drop-drop}
-use borrow.Author.Tests.{leb-true, leb-false, eqb-true, eqb-false, le-leb, lt-ltb, ne-eqb}
+use borrow.Author.Tests.{leb-true, leb-false, eqb-true, eqb-false, le-leb, lt-ltb, eq-eqb, ne-eqb}
 use Rattle.format.specs.declared.Format.{Format}
 use Rattle.format.specs.declared.Format.the-variants as format
 use Rattle.format.specs.declared.Fields.{Fields}
@@ -198,6 +198,40 @@ module _ (fields : Fields) (packet : List ℕ) (range : inRange fields ≡ true)
       let i : k < pieceCount (pieceSize (formatOf fields)) (length packet) = rw count at h in
       nth-piece fields packet (pieceCount (pieceSize (formatOf fields)) (length packet)) 0 k i other ∙ ap (piece fields packet) (zero-add k)
 
+  one-piece : length packet ≤ 8 → length (pieces fields packet) ≡ 1
+  one-piece h = count ∙ count-single (pieceSize (formatOf fields)) (length packet) h
+
+  more-pieces : 8 < length packet → 2 ≤ length (pieces fields packet)
+  more-pieces h =
+      let fm = formatOf fields in
+      rw count (several (pieceSize fm) (length packet) (some-bytes fm) (eight-bytes fm) h .two)
+
+  flag-of-piece : (k : ℕ) → piece fields packet k .flag ≡ pieceFlag (length (pieces fields packet)) k
+  unfolding piece
+  flag-of-piece k = rw count
+
+  single-flag : length (pieces fields packet) ≡ 1 → piece fields packet 0 .flag ≡ Single
+  single-flag e = flag-of-piece 0 ∙ rw e flag-single
+
+  start-flag : 2 ≤ length (pieces fields packet) → piece fields packet 0 .flag ≡ Start
+  start-flag h = flag-of-piece 0 ∙ flag-several (length (pieces fields packet)) 0 h
+
+  middle-flag : (k : ℕ) → 0 < k → k + 1 < length (pieces fields packet) → piece fields packet k .flag ≡ Middle
+  middle-flag k p h =
+      let n = length (pieces fields packet) in
+      let two : 2 ≤ n = omega arith in
+      flag-of-piece k ∙ flag-several n k two ∙ rw (ne-eqb k 0 (λ e. omega arith), ne-eqb (k + 1) n (λ e. omega arith))
+
+  end-flag : (k : ℕ) → 0 < k → k + 1 ≡ length (pieces fields packet) → piece fields packet k .flag ≡ End
+  end-flag k p h =
+      let n = length (pieces fields packet) in
+      let two : 2 ≤ n = omega arith in
+      flag-of-piece k ∙ flag-several n k two ∙ rw (ne-eqb k 0 (λ e. omega arith), eq-eqb (k + 1) n h)
+
+  number-of-piece : (k : ℕ) → piece fields packet k .number ≡ k % numberRange (formatOf fields)
+  unfolding piece
+  number-of-piece k = refl
+
   sound-piece : (k : ℕ) → k < length (pieces fields packet) → soundFrame (piece fields packet k) ≡ true
   unfolding soundFrame piece Ruled
   sound-piece k h =
@@ -250,7 +284,14 @@ splitting fields packet range small =
     record {
       counted = counted-pieces fields packet range small;
       few = rw (count fields packet range small) (few-pieces (formatOf fields) (length packet) small);
+      one = one-piece fields packet range small;
+      more = more-pieces fields packet range small;
       listed = listed-piece fields packet range small;
+      single = single-flag fields packet range small;
+      start = start-flag fields packet range small;
+      middle = middle-flag fields packet range small;
+      end = end-flag fields packet range small;
+      number = number-of-piece fields packet range small;
       sound = sound-piece fields packet range small;
       of-packet = own-fields fields packet range small;
       judged = judged-piece fields packet range small;

@@ -9,7 +9,6 @@ use lib.ListN.{length, take}
 use borrow.Author.Tests.{le-leb, lt-leb}
 use Rattle.format.specs.declared.Fields.{Fields}
 use Rattle.format.specs.declared.Fields.the-variants.{Extended, Standard}
-use Rattle.format.specs.declared.Format.the-variants as formats
 use Rattle.format.specs.declared.Flag.{Flag}
 use Rattle.format.specs.declared.Outcome.the-variants.{Value, Refused}
 use Rattle.format.specs.declared.Refusal.the-variants.{Room}

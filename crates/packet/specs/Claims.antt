@@ -1,11 +1,12 @@
 -- What is proved of splitting, in both formats; proofs/Pieces.antt has the proofs.
-use Prim.Native.Nat.{ℕ, _+_, _≤_, _<_}
+use Prim.Native.Nat.{ℕ, _+_, _%_, _≤_, _<_}
 use mathlib.Core.Path.{_≡_}
 use mathlib.Core.Bool.{true}
 use mathlib.Core.List.{List, [], _∷_, _++_}
 use lib.ListN.{length, getD}
 use Rattle.format.specs.declared.Fields.{Fields}
-use Rattle.format.specs.Formats.{packetLimit, pieceSize, formatOf, inRange, packetStart}
+use Rattle.format.specs.declared.Flag.the-variants.{Middle, Start, End, Single}
+use Rattle.format.specs.Formats.{packetLimit, pieceSize, numberRange, packetStart, formatOf, inRange}
 use Rattle.format.specs.Refusals.{value}
 use Rattle.frame.specs.Judge.{Frame, judge}
 use Rattle.frame.specs.Image.{imageOf, soundFrame}
@@ -18,11 +19,19 @@ joined [] = []
 joined (frame ∷ frames) = frame .bytes ++ joined frames
 
 pub record IsSplit (fields : Fields) (packet : List ℕ) : Type 0 where
-  -- there are exactly as many pieces as the count says, at most 256
+  -- there are exactly as many pieces as the count says, 1 to 256: one for a packet of 0 to 8 bytes, more for a longer one
   pub counted : countOf (formatOf fields) (length packet) ≡ value (length (pieces fields packet))
   pub few : length (pieces fields packet) ≤ 256
+  pub one : length packet ≤ 8 → length (pieces fields packet) ≡ 1
+  pub more : 8 < length packet → 2 ≤ length (pieces fields packet)
   -- piece k is the k-th of them
   pub listed : (k : ℕ) → k < length (pieces fields packet) → (other : Frame) → getD (pieces fields packet) k other ≡ piece fields packet k
+  -- a single, or a start, middles and an end; piece k has number k, taken modulo the number range
+  pub single : length (pieces fields packet) ≡ 1 → piece fields packet 0 .flag ≡ Single
+  pub start : 2 ≤ length (pieces fields packet) → piece fields packet 0 .flag ≡ Start
+  pub middle : (k : ℕ) → 0 < k → k + 1 < length (pieces fields packet) → piece fields packet k .flag ≡ Middle
+  pub end : (k : ℕ) → 0 < k → k + 1 ≡ length (pieces fields packet) → piece fields packet k .flag ≡ End
+  pub number : (k : ℕ) → piece fields packet k .number ≡ k % numberRange (formatOf fields)
   -- each is a sound frame of the packet's fields
   pub sound : (k : ℕ) → k < length (pieces fields packet) → soundFrame (piece fields packet k) ≡ true
   pub of-packet : (k : ℕ) → piece fields packet k .fields ≡ fields

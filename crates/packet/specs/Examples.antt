@@ -2,8 +2,8 @@
 -- single claim over it. proofs/Examples.antt proves it.
 use Prim.Native.Nat.{ℕ}
 use mathlib.Core.Path.{_≡_}
-use mathlib.Core.List.{List, [], _∷_, map}
-use lib.ListN.{length, getD, replicate}
+use mathlib.Core.List.{List, [], _∷_}
+use lib.ListN.{length, getD}
 use Rattle.format.specs.declared.Format.{Format}
 use Rattle.format.specs.declared.Format.the-variants.{Extended, Standard}
 use Rattle.format.specs.declared.Fields.{Fields}
@@ -15,7 +15,7 @@ use Rattle.format.specs.Refusals.{Result, value, refused, number}
 use Rattle.frame.specs.Judge.{Judged, judge}
 use Rattle.frame.specs.Image.{imageOf}
 use Rattle.packet.specs.Split.{piece}
-use Rattle.packet.specs.Send.{countOf, send}
+use Rattle.packet.specs.Send.{countOf}
 
 pub data Example : Type 0 where
   -- an image, and what it is judged to be
@@ -28,7 +28,7 @@ pub data Example : Type 0 where
 abbrev sound : Fields → Flag → (number : ℕ) → List ℕ → (start : ℕ) → Result Judged
 sound said flag n bytes start = value (record { frame = record { fields = said; flag = flag; number = n; bytes = bytes }; start = start })
 
-unfoldable pub table : List Example
+abbrev pub table : List Example
 table =
     -- 81 45 00 C0 10 07: priority 1, source 5, group 0, destination 0, single, function 2, one byte
     judges Extended (0x81 ∷ 0x45 ∷ 0x00 ∷ 0xC0 ∷ 0x10 ∷ 0x07 ∷ []) (sound (fields.Extended 1 5 0 0 2) Single 0 (0x07 ∷ []) 5)
@@ -67,35 +67,19 @@ table =
     ∷ numbers 2048 255 0xBF
     ∷ []
 
--- what an example shows
-pub data Shown : Type 0 where
-  judgement : Result Judged → Shown
-  count : Result ℕ → Shown
-  byte : Result ℕ → Shown
+-- that an example holds of the definitions; for byte 3 whatever the fields and the packet's bytes are (256 is no byte: it would
+-- stand for a byte that is not there)
+abbrev pub Holds : Example → Type 0
+Holds (judges format image said) = judge format image ≡ said
+Holds (counts format size said) = countOf format size ≡ said
+Holds (numbers size k said) =
+    (priority source group destination function : ℕ) (packet : List ℕ) → length packet ≡ size
+    → getD (imageOf (piece (fields.Extended priority source group destination function) packet k)) 3 256 ≡ said
 
--- byte 3 of an image; 256, which is no byte, where it has none
-abbrev byteThree : Result (List ℕ) → Result ℕ
-byteThree (value image) = value (getD image 3 256)
-byteThree (refused n) = refused n
+abbrev pub AllHold : List Example → Type 0
+AllHold [] = Unit {0}
+AllHold (example ∷ rest) = Holds example × AllHold rest
 
--- what the definitions give, for byte 3 with a packet of zeros
-unfoldable pub given : Example → Shown
-given (judges format image said) = judgement (judge format image)
-given (counts format size said) = count (countOf format size)
-given (numbers size k said) = byte (byteThree (send (fields.Extended 0 0 0 0 0) (replicate size 0) k 13))
-
--- what document 01 says
-unfoldable pub stated : Example → Shown
-stated (judges format image said) = judgement said
-stated (counts format size said) = count said
-stated (numbers size k said) = byte (value said)
-
+-- the single claim: every example of the table holds
 unfoldable pub ExamplesHold : Type 0
-ExamplesHold = map given table ≡ map stated table
-
--- byte 3 is the same whatever the packet's bytes and the fields are: it depends on the packet's size and k alone
-unfoldable pub ByteThree : Type 0
-ByteThree =
-    (priority source group destination function : ℕ) (packet packet′ : List ℕ) (k : ℕ) → length packet ≡ length packet′
-    → getD (imageOf (piece (fields.Extended priority source group destination function) packet k)) 3 256
-    ≡ getD (imageOf (piece (fields.Extended 0 0 0 0 0) packet′ k)) 3 256
+ExamplesHold = AllHold table

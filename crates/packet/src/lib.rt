@@ -7,7 +7,7 @@ use format::Refusal;
 ghost use mathlib.Core.Path.{_≡_};
 ghost use mathlib.Core.Bool.{true};
 ghost use mathlib.Core.List.{_++_};
-ghost use Prim.Native.Nat.{_+_, _*_, _%_, _≤_, _<_};
+ghost use Prim.Native.Nat.{_+_, _%_, _≤_, _<_};
 ghost use lib.ListN.{length, take};
 ghost use lib.Seq.{paste};
 ghost use Rattle.format.specs.Formats.{numberRange, formatOf, inRange};
@@ -103,6 +103,7 @@ fn put(head: &[u8], m: usize, bytes: &[u8], output: &mut [u8])
 }
 
 // The header, after it the number for the pieces that have it among their data bytes, and zeros.
+// A count of 9, eight bytes and a number, never comes about; allowing it spares place a test.
 fn header_of(fields: Fields, flag: Flag, number: u8, count: u8) -> [u8; 6]
     requires { ⌜ (inRange fields ≡ true) × (number < numberRange (formatOf fields)) × (count ≤ 9) ⌝ }
     ensures { λ r. ⌜ r ≡ header fields flag number count ++ filler fields number ⌝ }

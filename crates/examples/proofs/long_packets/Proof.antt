@@ -16,11 +16,11 @@ ends-requires c κs = search needs
 add-over : tie.Need-add-over
 add-over c = search needs
 
-slice-aggregate-piece : tie.Need-slice-aggregate-piece
-slice-aggregate-piece c = let a = c .before .before .before .before .before .args in sym (length-take-le (a .longest + 1) (a .packet .now) (omega arith))
+slice-aggregate-too-long : tie.Need-slice-aggregate-too-long
+slice-aggregate-too-long c = let a = c .before .before .before .before .before .args in sym (length-take-le (a .longest + 1) (a .packet .now) (omega arith))
 
-piece-requires : tie.Need-piece-requires
-piece-requires c κs = search needs
+too-long-requires : tie.Need-too-long-requires
+too-long-requires c κs = search needs
 
 returns : tie.Need-returns
 returns c = search needs
@@ -35,7 +35,7 @@ long-packets-spec =
     slice-aggregate-ends
     ends-requires
     add-over
-    slice-aggregate-piece
-    piece-requires
+    slice-aggregate-too-long
+    too-long-requires
     returns
     returns-2)

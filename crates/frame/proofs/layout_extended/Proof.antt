@@ -23,9 +23,12 @@ shared-slice-read-b4 c = search needs
 flag-of-requires : tie.Need-flag-of-requires
 flag-of-requires c κs = search needs
 
+packet-start-requires : tie.Need-packet-start-requires
+packet-start-requires c κs = search needs
+
 returns : tie.Need-returns
 unfolding layout all
-returns c = simp (c .flag-of .ensures)
+returns c = simp (c .packet-start .ensures, c .before .flag-of .ensures)
 
 pub layout-extended-spec : {M : Type 1} → statement M
 layout-extended-spec =
@@ -37,4 +40,5 @@ layout-extended-spec =
     shared-slice-read-b3
     shared-slice-read-b4
     flag-of-requires
+    packet-start-requires
     returns)

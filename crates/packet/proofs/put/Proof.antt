@@ -15,8 +15,11 @@ same-length c = search needs
 
 returns : tie.Need-returns
 returns c =
-    let a = c .before .before .before .before .before .before .before .before .before .before .before .args in
-    rw (c .before .before .copy-in2 .ensures, c .before .before .before .before .before .before .copy-in .ensures) (then (a .head .now) (a .bytes .now) (a .output .now) (a .m) (c .before .before .before .before .before .before .before .before .before .before .before .pre .0))
+    let second = c .before .before in
+    let first = second .before .before .before .before in
+    let start = first .before .before .before .before .before in
+    let a = start .args in
+    rw (second .copy-in2 .ensures, first .copy-in .ensures) (then (a .head .now) (a .bytes .now) (a .output .now) (a .m) (start .pre .0))
 
 pub put-spec : {M : Type 1} → statement M
 put-spec = tie.close (tie.spec copy-in-requires copy-in-requires-2 same-length returns)
