@@ -268,6 +268,24 @@ fn standard_counts() {
     show_count(standard, 1793);
 }
 
+fn extended_fields(priority: u8, source: u8, group: u8, destination: u8, function: u8) -> Fields {
+    Fields::Extended {
+        priority: priority,
+        source: source,
+        group: group,
+        destination: destination,
+        function: function,
+    }
+}
+
+fn standard_fields(priority: u8, address: u8, side: u8) -> Fields {
+    Fields::Standard {
+        priority: priority,
+        address: address,
+        side: side,
+    }
+}
+
 // Piece k, written over as many bytes EE as asked for, 14 at most.
 fn piece(fields: Fields, packet: &[u8], k: usize, room: usize) {
     let mut output = [238u8; 14];
@@ -278,21 +296,11 @@ fn piece(fields: Fields, packet: &[u8], k: usize, room: usize) {
 
 // A packet of nine bytes in both formats, and one of eight.
 fn short_packets() {
-    let fields = Fields::Extended {
-        priority: 0,
-        source: 6,
-        group: 0,
-        destination: 0,
-        function: 2,
-    };
+    let fields = extended_fields(0, 6, 0, 0, 2);
     piece(fields, b"004127019", 0, 14);
     piece(fields, b"004127019", 1, 14);
     piece(fields, b"", 0, 5);
-    let answering = Fields::Standard {
-        priority: 2,
-        address: 22,
-        side: 1,
-    };
+    let answering = standard_fields(2, 22, 1);
     piece(answering, b"004127019", 0, 14);
     piece(answering, b"004127019", 1, 14);
     piece(answering, b"00412701", 0, 14);
@@ -300,57 +308,30 @@ fn short_packets() {
 
 // Refusals, and the room that is just enough.
 fn refusals() {
-    let fields = Fields::Extended {
-        priority: 0,
-        source: 6,
-        group: 0,
-        destination: 0,
-        function: 2,
-    };
+    let fields = extended_fields(0, 6, 0, 0, 2);
     piece(fields, b"004127019", 2, 5);
     piece(fields, b"004127019", 1, 5);
     piece(fields, b"004127019", 1, 6);
-    let wrong = Fields::Standard {
-        priority: 2,
-        address: 22,
-        side: 2,
-    };
+    let wrong = standard_fields(2, 22, 2);
     piece(wrong, b"004127019", 2, 0);
 }
 
-// A piece of extended fields, of which one may be out of range.
-fn extended_piece(priority: u8, source: u8, group: u8, destination: u8, function: u8) {
-    let fields = Fields::Extended {
-        priority: priority,
-        source: source,
-        group: group,
-        destination: destination,
-        function: function,
-    };
-    piece(fields, b"004127019", 1, 6);
-}
-
-fn standard_piece(priority: u8, address: u8, side: u8) {
-    let fields = Fields::Standard {
-        priority: priority,
-        address: address,
-        side: side,
-    };
+fn range_piece(fields: Fields) {
     piece(fields, b"004127019", 1, 6);
 }
 
 // The largest value of each field, and one more of each.
 fn field_ranges() {
-    extended_piece(3, 63, 3, 63, 31);
-    extended_piece(4, 63, 3, 63, 31);
-    extended_piece(3, 64, 3, 63, 31);
-    extended_piece(3, 63, 4, 63, 31);
-    extended_piece(3, 63, 3, 64, 31);
-    extended_piece(3, 63, 3, 63, 32);
-    standard_piece(3, 63, 1);
-    standard_piece(4, 63, 1);
-    standard_piece(3, 64, 1);
-    standard_piece(3, 63, 2);
+    range_piece(extended_fields(3, 63, 3, 63, 31));
+    range_piece(extended_fields(4, 63, 3, 63, 31));
+    range_piece(extended_fields(3, 64, 3, 63, 31));
+    range_piece(extended_fields(3, 63, 4, 63, 31));
+    range_piece(extended_fields(3, 63, 3, 64, 31));
+    range_piece(extended_fields(3, 63, 3, 63, 32));
+    range_piece(standard_fields(3, 63, 1));
+    range_piece(standard_fields(4, 63, 1));
+    range_piece(standard_fields(3, 64, 1));
+    range_piece(standard_fields(3, 63, 2));
 }
 
 // Pieces about the ends and the wrap of the numbers.
@@ -369,11 +350,7 @@ fn ends(fields: Fields, packet: &[u8]) {
 // A packet over the limit, with no such piece; and with a field out of range, which comes first.
 fn too_long(fields: Fields, packet: &[u8]) {
     piece(fields, packet, 999, 3);
-    let wrong = Fields::Standard {
-        priority: 4,
-        address: 22,
-        side: 1,
-    };
+    let wrong = standard_fields(4, 22, 1);
     piece(wrong, packet, 999, 3);
 }
 
@@ -445,18 +422,8 @@ fn main() {
     last_numbers();
     let mut packet = [0u8; 2049];
     fill(&mut packet);
-    let fields = Fields::Extended {
-        priority: 3,
-        source: 63,
-        group: 3,
-        destination: 63,
-        function: 31,
-    };
+    let fields = extended_fields(3, 63, 3, 63, 31);
     long_packets(fields, &packet, 2048);
-    let answering = Fields::Standard {
-        priority: 2,
-        address: 22,
-        side: 1,
-    };
+    let answering = standard_fields(2, 22, 1);
     long_packets(answering, &packet, 1792);
 }

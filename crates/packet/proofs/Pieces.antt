@@ -216,17 +216,18 @@ module _ (fields : Fields) (packet : List ℕ) (range : inRange fields ≡ true)
   start-flag : 2 ≤ length (pieces fields packet) → piece fields packet 0 .flag ≡ Start
   start-flag h = flag-of-piece 0 ∙ flag-several (length (pieces fields packet)) 0 h
 
+  -- after the start, the end or a middle
+  later-flag : (k : ℕ) → 0 < k → k + 1 ≤ length (pieces fields packet) → (last : Bool) → eqb (k + 1) (length (pieces fields packet)) ≡ last
+      → piece fields packet k .flag ≡ cond last End Middle
+  later-flag k p h last e =
+      let two : 2 ≤ length (pieces fields packet) = omega arith in
+      flag-of-piece k ∙ flag-several (length (pieces fields packet)) k two ∙ rw (ne-eqb k 0 (λ z. omega arith), e)
+
   middle-flag : (k : ℕ) → 0 < k → k + 1 < length (pieces fields packet) → piece fields packet k .flag ≡ Middle
-  middle-flag k p h =
-      let n = length (pieces fields packet) in
-      let two : 2 ≤ n = omega arith in
-      flag-of-piece k ∙ flag-several n k two ∙ rw (ne-eqb k 0 (λ e. omega arith), ne-eqb (k + 1) n (λ e. omega arith))
+  middle-flag k p h = later-flag k p (omega arith) false (ne-eqb (k + 1) (length (pieces fields packet)) (λ e. omega arith))
 
   end-flag : (k : ℕ) → 0 < k → k + 1 ≡ length (pieces fields packet) → piece fields packet k .flag ≡ End
-  end-flag k p h =
-      let n = length (pieces fields packet) in
-      let two : 2 ≤ n = omega arith in
-      flag-of-piece k ∙ flag-several n k two ∙ rw (ne-eqb k 0 (λ e. omega arith), eq-eqb (k + 1) n h)
+  end-flag k p h = later-flag k p (omega arith) true (eq-eqb _ _ h)
 
   number-of-piece : (k : ℕ) → piece fields packet k .number ≡ k % numberRange (formatOf fields)
   unfolding piece
