@@ -1,0 +1,6 @@
+pub mod Demands
+pub mod Stations
+pub mod Receive
+pub mod Open
+pub mod Read
+pub mod Run

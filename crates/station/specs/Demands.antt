@@ -1,0 +1,150 @@
+-- What is promised of whole runs. Open this file first: the definitions that it speaks of are those that the calls' contracts
+-- cite. proofs/Demands.antt has the proofs.
+use Prim.Native.Nat.{ℕ, _+_, _-_, _≤_, _<_}
+use mathlib.Core.Path.{_≡_}
+use mathlib.Core.Logic.{_≢_}
+use mathlib.Core.Bool.{Bool, true, false, cond}
+use mathlib.Core.List.{List, [], _∷_, _++_, map}
+use lib.Dec.{leb}
+use lib.ListN.{length, replicate}
+use Rattle.format.specs.declared.Format.{Format}
+use Rattle.format.specs.declared.Format.the-variants.{Standard}
+use Rattle.format.specs.declared.Refusal.the-variants.{Long}
+use Rattle.format.specs.Refusals.{Result, value, refused, number}
+use Rattle.format.specs.Formats.{packetLimit}
+use Rattle.frame.specs.Judge.{Frame}
+use Rattle.frame.specs.Image.{imageOf}
+use Rattle.packet.specs.Split.{pieces}
+use Rattle.stream.specs.declared.Progress.{Progress}
+use Rattle.stream.specs.declared.Progress.the-variants.{Idle, Done}
+use Rattle.stream.specs.Answers.{Reply, packet, kept}
+use Rattle.stream.specs.Step.{collecting}
+use Rattle.slot.specs.declared.Key.{Key}
+use Rattle.slot.specs.declared.Stream.{Stream}
+use Rattle.slot.specs.Slots.{closedSlot, openSlot, slotAt}
+use Rattle.slot.specs.Sound.{keyInRange}
+use Rattle.station.specs.declared.Station.{Station}
+use Rattle.station.specs.Stations.{newStation, soundStation, area, fullSize}
+use Rattle.station.specs.Receive.{receive, progressOf}
+use Rattle.station.specs.Open.{opening, closing}
+use Rattle.station.specs.Read.{reading}
+use Rattle.station.specs.Run.{Call, Ran, run, framesOf, answersOf, Alone, oneStream}
+
+-- ---- demand 3: each stream behaves as if it were alone
+
+-- "A stream is a slot open when the run begins."
+abbrev pub IsStream : Station → ℕ → Stream → Type 0
+IsStream station i stream = (i < 16) × (slotAt (station .slots) i ≡ openSlot (stream .key) (stream .progress))
+
+abbrev pub IsClosed : Station → ℕ → Type 0
+IsClosed station i = (i < 16) × (slotAt (station .slots) i ≡ closedSlot)
+
+-- what a run of calls shows of slot i and its key: the answers at its frames, its final progress, its area's bytes
+unfoldable pub shown : Format → ℕ → Key → List Call → Ran → Alone
+shown format i key calls ran =
+    record {
+      answers = answersOf format key calls (ran .answers);
+      progress = progressOf (slotAt (ran .station .slots) i);
+      area = area (ran .store) i;
+    }
+
+-- what the one-stream receiver gives for the stream's frames alone
+unfoldable pub alone : Format → ℕ → Stream → List ℕ → List Call → Alone
+alone format i stream store calls =
+    oneStream format (stream .progress) (area store i) (framesOf format (stream .key) calls)
+
+-- whatever the other streams send: each stream is shown as it would be alone, and stays open with its key; closed slots and
+-- their areas stay as they were
+pub record Isolated (station : Station) (store : List ℕ) (calls : List Call) : Type 0 where
+  pub streams : (i : ℕ) (stream : Stream) → IsStream station i stream
+      → shown (station .format) i (stream .key) calls (run station store calls) ≡ alone (station .format) i stream store calls
+  pub slots : (i : ℕ) (stream : Stream) → IsStream station i stream
+      → slotAt (run station store calls .station .slots) i
+      ≡ openSlot (stream .key) (alone (station .format) i stream store calls .progress)
+  pub closed : (i : ℕ) → IsClosed station i
+      → (slotAt (run station store calls .station .slots) i ≡ closedSlot) × (area (run station store calls .store) i ≡ area store i)
+
+-- two runs give each stream the same frames in the same order
+unfoldable pub SameFrames : Station → List Call → List Call → Type 0
+SameFrames station calls others =
+    (i : ℕ) (stream : Stream) → IsStream station i stream
+    → framesOf (station .format) (stream .key) calls ≡ framesOf (station .format) (stream .key) others
+
+-- they give the same answers at them, and end with the same slots, packets and store
+pub record Agree (station : Station) (store : List ℕ) (calls others : List Call) : Type 0 where
+  pub answers : (i : ℕ) (stream : Stream) → IsStream station i stream
+      → answersOf (station .format) (stream .key) calls (run station store calls .answers)
+      ≡ answersOf (station .format) (stream .key) others (run station store others .answers)
+  pub stations : run station store calls .station ≡ run station store others .station
+  pub packets : (i : ℕ)
+      → reading (run station store calls .station) (run station store calls .store) i
+      ≡ reading (run station store others .station) (run station store others .store) i
+  pub stores : run station store calls .store ≡ run station store others .store
+
+-- for every sound station with a full-size store and every list of calls
+unfoldable pub Demand3 : Type 0
+Demand3 =
+    (station : Station) (store : List ℕ) → soundStation station ≡ true → fullSize store ≡ true
+    → ((calls : List Call) → Isolated station store calls)
+    × ((calls others : List Call) → SameFrames station calls others → Agree station store calls others)
+
+-- ---- demand 2, last sentence: a packet's frames fed in order come out as that packet
+
+-- the calls that feed frames on a bus
+abbrev pub fed : (bus : ℕ) → List Frame → List Call
+fed bus frames = map (λ (frame : Frame). record { bus = bus; image = imageOf frame }) frames
+
+-- two lists of calls, each in its order, one between the other as the choices say: true takes the next of the first
+unfoldable pub woven : List Bool → List Call → List Call → List Call
+woven [] calls others = calls ++ others
+woven (choice ∷ choices) [] others = others
+woven (choice ∷ choices) (call ∷ calls) [] = call ∷ calls
+woven (true ∷ choices) (call ∷ calls) (other ∷ others) = call ∷ woven choices calls (other ∷ others)
+woven (false ∷ choices) (call ∷ calls) (other ∷ others) = other ∷ woven choices (call ∷ calls) others
+
+-- the answers at the pieces of a packet of n bytes: "kept" at each but the last, then "packet" with the length; "broke" at the
+-- first if the stream was collecting
+unfoldable pub answersTo : (count n : ℕ) (broke : Bool) → List (Result Reply)
+answersTo count n broke =
+    cond (leb count 1) (value (packet n broke) ∷ [])
+    (value (kept broke) ∷ (replicate (count - 2) (value (kept false)) ++ (value (packet n false) ∷ [])))
+
+-- the images of the pieces of a packet of any size within the limit, fed in order to an open stream with their key, with whatever
+-- else is received between them that is no frame of that stream, end in that packet, and reading gives its bytes. The stream
+-- may be idle, as the sentence has it, or not
+unfoldable pub RoundTrip : Type 0
+RoundTrip =
+    (station : Station) (store : List ℕ) → soundStation station ≡ true → fullSize store ≡ true
+    → (i : ℕ) (stream : Stream) → IsStream station i stream
+    → (bytes : List ℕ) → length bytes ≤ packetLimit (station .format)
+    → (others : List Call) → framesOf (station .format) (stream .key) others ≡ []
+    → (choices : List Bool)
+    → let frames = pieces (stream .key .fields) bytes in
+    let calls = woven choices (fed (stream .key .bus) frames) others in
+    let ran = run station store calls in
+    (reading (ran .station) (ran .store) i ≡ value bytes)
+    × (answersOf (station .format) (stream .key) calls (ran .answers) ≡ answersTo (length frames) (length bytes) (collecting (stream .progress)))
+
+-- ---- soundness is kept, and LONG is extended only
+
+unfoldable pub StaysSound : Type 0
+StaysSound =
+    (station : Station) → soundStation station ≡ true
+    → ((key : Key) → soundStation (opening station key .station) ≡ true)
+    × ((i : ℕ) → soundStation (closing station i .station) ≡ true)
+    × ((store : List ℕ) (bus : ℕ) (image : List ℕ) → soundStation (receive station store bus image .station) ≡ true)
+
+unfoldable pub NeverLong : Type 0
+NeverLong =
+    (station : Station) → soundStation station ≡ true → station .format ≡ Standard
+    → (store : List ℕ) (bus : ℕ) (image : List ℕ) → receive station store bus image .answer ≢ refused (number Long)
+
+-- ---- the premises can be met
+
+-- a new station is sound; one with a stream opened is, and has that stream, idle
+unfoldable pub CanBeMet : Type 0
+CanBeMet =
+    ((format : Format) → soundStation (newStation format) ≡ true)
+    × ((station : Station) (key : Key) (i : ℕ) → opening station key .answer ≡ value i
+    → (soundStation (opening station key .station) ≡ true) × IsStream (opening station key .station) i (record { key = key; progress = Idle }))
+    × ((format : Format) (key : Key) → keyInRange format key ≡ true → opening (newStation format) key .answer ≡ value 0)

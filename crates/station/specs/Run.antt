@@ -1,0 +1,64 @@
+-- Document 01, "Streams and receiving", last two paragraphs but one: a run, a stream's frames, the one-stream receiver.
+use Prim.Native.Nat.{ℕ}
+use mathlib.Core.Bool.{cond}
+use mathlib.Core.List.{List, [], _∷_}
+use Rattle.format.specs.declared.Format.{Format}
+use Rattle.format.specs.Refusals.{Result, value, refused}
+use Rattle.frame.specs.Judge.{Frame, Judged}
+use Rattle.stream.specs.declared.Progress.{Progress}
+use Rattle.stream.specs.Answers.{Reply}
+use Rattle.stream.specs.Step.{Next, step}
+use Rattle.slot.specs.declared.Key.{Key}
+use Rattle.slot.specs.Slots.{sameKey}
+use Rattle.station.specs.declared.Station.{Station}
+use Rattle.station.specs.Receive.{After, keyOf, examined, receive}
+
+-- "a run is a list of receiving calls on the first front, each a bus number and an image given beforehand"
+pub record Call : Type 0 where
+  pub bus : ℕ
+  pub image : List ℕ
+
+pub record Ran : Type 0 where
+  pub answers : List (Result Reply)
+  pub station : Station
+  pub store : List ℕ
+
+-- "each call gets the station that the last handed back and the store as it left it"
+unfoldable pub run : Station → List ℕ → List Call → Ran
+run station store [] = record { answers = []; station = station; store = store }
+run station store (call ∷ calls) =
+    let first : After = receive station store (call .bus) (call .image) in
+    let rest : Ran = run (first .station) (first .store) calls in
+    record { answers = first .answer ∷ rest .answers; station = rest .station; store = rest .store }
+
+-- "Its frames are the images received on its key's bus, with its key's fields, that 1 to 5 and 9 don't refuse": x is added in
+-- front of xs if the examined image is a frame of the key
+unfoldable pub addIfOf : {A : Type 0} → Key → (bus : ℕ) → Result (Result Judged) → (Frame → A) → List A → List A
+addIfOf key bus (refused n) x xs = xs
+addIfOf key bus (value (refused n)) x xs = xs
+addIfOf key bus (value (value judged)) x xs = cond (sameKey key (keyOf bus (judged .frame))) (x (judged .frame) ∷ xs) xs
+
+unfoldable pub framesOf : Format → Key → List Call → List Frame
+framesOf format key [] = []
+framesOf format key (call ∷ calls) =
+    addIfOf key (call .bus) (examined format (call .bus) (call .image)) (λ frame. frame) (framesOf format key calls)
+
+-- the answers at its frames, of the answers given in a run
+unfoldable pub answersOf : Format → Key → List Call → List (Result Reply) → List (Result Reply)
+answersOf format key [] answers = []
+answersOf format key (call ∷ calls) [] = []
+answersOf format key (call ∷ calls) (answer ∷ answers) =
+    addIfOf key (call .bus) (examined format (call .bus) (call .image)) (λ frame. answer) (answersOf format key calls answers)
+
+-- "The one-stream receiver has one format, a state [..] and 2,048 bytes. [..] and is fed the stream's frames one by one."
+pub record Alone : Type 0 where
+  pub answers : List (Result Reply)
+  pub progress : Progress
+  pub area : List ℕ
+
+unfoldable pub oneStream : Format → Progress → List ℕ → List Frame → Alone
+oneStream format progress area [] = record { answers = []; progress = progress; area = area }
+oneStream format progress area (frame ∷ frames) =
+    let next : Next = step format progress area frame in
+    let rest : Alone = oneStream format (next .progress) (next .area) frames in
+    record { answers = next .answer ∷ rest .answers; progress = rest .progress; area = rest .area }
