@@ -1,8 +1,16 @@
 // The sixteen slots of a station: keys, soundness, and which slot is open with a key.
+use format::Extended;
 use format::Fields;
 use format::Format;
+use format::Standard;
 use stream::Progress;
+ghost use Prim.Native.Nat.{_<_, _≤_};
+ghost use lib.ListN.{length, drop};
+ghost use mathlib.Core.Bool.{true};
 ghost use mathlib.Core.Path.{_≡_};
+ghost use Rattle.slot.specs.Codes.{keyCode, slotCode, codesFrom, is, clashing};
+ghost use Rattle.slot.specs.Slots.{isClosed, closed, place};
+ghost use Rattle.slot.specs.Sound.{sameFormat, keyInRange, fits, slotSound, slotsSound, any, sound, sought};
 
 // What a stream is known by: the bus (0 is A, 1 is B) and all identifier fields.
 pub struct Key {
@@ -28,4 +36,242 @@ pub struct Slot {
 pub enum Sought {
     Unsound,
     At(usize),
+}
+
+fn same_format(a: Format, b: Format) -> bool
+    ensures { λ r. ⌜ r ≡ sameFormat a b ⌝ }
+{
+    match a {
+        Format::Extended => match b {
+            Format::Extended => true,
+            Format::Standard => false,
+        },
+        Format::Standard => match b {
+            Format::Extended => false,
+            Format::Standard => true,
+        },
+    }
+}
+
+// Whether the bus is A or B, and the fields are of the format and each in its range.
+pub fn key_in_range(format: Format, key: Key) -> bool
+    ensures { λ r. ⌜ r ≡ keyInRange format key ⌝ }
+{
+    let fields = key.fields;
+    (key.bus <= 1) & same_format(format, fields.format()) & fields.in_range()
+}
+
+// Whether so many bytes can be held. Collecting, a standard stream has 255 pieces at most, 1,785
+// bytes; an extended one may have all 256, as an end can be empty.
+fn fits(format: Format, progress: Progress) -> bool
+    ensures { λ r. ⌜ r ≡ fits format progress ⌝ }
+{
+    match progress {
+        Progress::Idle => true,
+        Progress::Collecting(h) => {
+            let n = h as usize;
+            match format {
+                Format::Extended => {
+                    (n % Extended::PIECE_SIZE == 0)
+                        & (Extended::PIECE_SIZE <= n)
+                        & (n <= Extended::PACKET_LIMIT)
+                }
+                Format::Standard => {
+                    (n % Standard::PIECE_SIZE == 0) & (Standard::PIECE_SIZE <= n) & (n <= 1785)
+                }
+            }
+        }
+        Progress::Done(h) => {
+            let n = h as usize;
+            match format {
+                Format::Extended => n <= Extended::PACKET_LIMIT,
+                Format::Standard => n <= Standard::PACKET_LIMIT,
+            }
+        }
+    }
+}
+
+fn slot_sound(format: Format, occupancy: Occupancy) -> bool
+    ensures { λ r. ⌜ r ≡ slotSound format occupancy ⌝ }
+{
+    match occupancy {
+        Occupancy::Closed => true,
+        Occupancy::Open(stream) => {
+            let key = stream.key;
+            let progress = stream.progress;
+            key_in_range(format, key) & fits(format, progress)
+        }
+    }
+}
+
+fn widened(x: u8) -> u32
+    ensures { λ r. ⌜ r ≡ x ⌝ }
+{
+    x as u32
+}
+
+// One number for each key in range. It is made of whole bytes, so that the machine takes fields
+// that lie side by side at once; the function and the bus lie above the priority.
+fn key_code(key: Key) -> u32
+    requires { ⌜ keyCode key < 4294967296 ⌝ }
+    ensures { λ r. ⌜ r ≡ keyCode key ⌝ }
+{
+    let fields = key.fields;
+    let bus = widened(key.bus);
+    match fields {
+        Fields::Extended {
+            priority: p,
+            source: s,
+            group: g,
+            destination: d,
+            function: f,
+        } => {
+            widened(p)
+                + widened(s) * 256
+                + widened(g) * 65536
+                + widened(d) * 16777216
+                + widened(f) * 4
+                + bus * 128
+        }
+        Fields::Standard {
+            priority: p,
+            address: a,
+            side: s,
+        } => widened(p) + widened(a) * 256 + widened(s) * 65536 + 16384 + bus * 128,
+    }
+}
+
+// A closed slot has a number of its own, above every key's.
+fn slot_code(occupancy: Occupancy, i: u32) -> u32
+    requires { ⌜ slotCode occupancy i < 4294967296 ⌝ }
+    ensures { λ r. ⌜ r ≡ slotCode occupancy i ⌝ }
+{
+    match occupancy {
+        Occupancy::Closed => 1073741824 + i,
+        Occupancy::Open(stream) => {
+            let key = stream.key;
+            key_code(key)
+        }
+    }
+}
+
+// Whether each slot by itself is sound; if so, the codes are theirs.
+fn scan(format: Format, slots: [Slot; 16], codes: &mut [u32; 16]) -> bool
+    requires { ⌜ length (now codes) ≡ 16 ⌝ }
+    ensures { λ r. ⌜ r ≡ slotsSound format slots ⌝ }
+    ensures { λ _. ⌜ length (now (codes .exit)) ≡ 16 ⌝ }
+    ensures { λ r. ⌜ (r ≡ true → now (codes .exit) ≡ codesFrom slots 0) ⌝ }
+{
+    let mut n: u32 = 0;
+    let mut i: usize = 0;
+    while i < 16 {
+        let slot = slots[i];
+        let occupancy = slot.occupancy;
+        if !slot_sound(format, occupancy) {
+            return false;
+        }
+        codes[i] = slot_code(occupancy, n);
+        n += 1;
+        i += 1;
+    }
+    true
+}
+
+// Whether the code is among those from a place on. No branch in the row: it is compared four
+// codes at a time.
+fn repeated(codes: &[u32; 16], from: usize, code: u32) -> bool
+    requires { ⌜ (from ≤ 16) × (length (now codes) ≡ 16) ⌝ }
+    ensures { λ r. ⌜ r ≡ any (is code) (drop from (now (codes .entry))) ⌝ }
+{
+    let mut hit = false;
+    let mut j = from;
+    while j < 16 {
+        hit = hit | (codes[j] == code);
+        j += 1;
+    }
+    hit
+}
+
+// Whether two codes are equal.
+fn clash(codes: &[u32; 16]) -> bool
+    requires { ⌜ length (now codes) ≡ 16 ⌝ }
+    ensures { λ r. ⌜ r ≡ clashing (now (codes .entry)) ⌝ }
+{
+    let mut i: usize = 0;
+    while i < 16 {
+        if repeated(codes, i + 1, codes[i]) {
+            return true;
+        }
+        i += 1;
+    }
+    false
+}
+
+fn find_code(codes: &[u32; 16], code: u32) -> usize
+    requires { ⌜ length (now codes) ≡ 16 ⌝ }
+    ensures { λ r. ⌜ r ≡ place (is code) (now (codes .entry)) ⌝ }
+{
+    let mut at: usize = 0;
+    while at < 16 {
+        if codes[at] == code {
+            return at;
+        }
+        at += 1;
+    }
+    16
+}
+
+fn is_closed(occupancy: Occupancy) -> bool
+    ensures { λ r. ⌜ r ≡ closed occupancy ⌝ }
+{
+    match occupancy {
+        Occupancy::Closed => true,
+        Occupancy::Open(_) => false,
+    }
+}
+
+// The first closed slot, 16 if there is none.
+pub fn first_closed(slots: [Slot; 16]) -> usize
+    ensures { λ r. ⌜ r ≡ place isClosed slots ⌝ }
+{
+    let mut i: usize = 0;
+    while i < 16 {
+        let slot = slots[i];
+        let occupancy = slot.occupancy;
+        if is_closed(occupancy) {
+            return i;
+        }
+        i += 1;
+    }
+    16
+}
+
+// Whether each slot is sound and open keys differ.
+pub fn sound(format: Format, slots: [Slot; 16]) -> bool
+    ensures { λ r. ⌜ r ≡ sound format slots ⌝ }
+{
+    let mut codes = [0u32; 16];
+    if scan(format, slots, &mut codes) {
+        !clash(&codes)
+    } else {
+        false
+    }
+}
+
+// Where the key is open. Soundness is found out on the way, from the same codes.
+pub fn seek(format: Format, slots: [Slot; 16], key: Key) -> Sought
+    ensures { λ r. ⌜ r ≡ sought format slots key ⌝ }
+{
+    let mut codes = [0u32; 16];
+    if !scan(format, slots, &mut codes) {
+        return Sought::Unsound;
+    }
+    if clash(&codes) {
+        return Sought::Unsound;
+    }
+    // in sound slots no key out of range is open
+    if !key_in_range(format, key) {
+        return Sought::At(16);
+    }
+    Sought::At(find_code(&codes, key_code(key)))
 }

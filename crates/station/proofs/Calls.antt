@@ -1,23 +1,22 @@
 -- One call, seen from slot i: either it is a frame of the key open there, and the slot and its area step, or both stay.
-use Prim.Native.Nat.{ℕ, _+_, _*_, _≤_, _<_}
+use Prim.Native.Nat.{ℕ, _<_}
 use mathlib.Core.Path.{_≡_, refl, sym, ap, _∙_, subst}
 use mathlib.Core.Logic.{_≢_}
-use mathlib.Core.Bool.{Bool, true, false, cond, not}
+use mathlib.Core.Bool.{Bool, true, false, cond}
 use mathlib.Core.List.{List, [], _∷_}
 use native.Mathlib.Omega.{arith}
 use lib.Dec.{ltb, leb, eqb}
-use lib.ListN.{length, getD, set, length-set}
+use lib.ListN.{length, length-set}
 use lib.Seq.{getD-set-same, getD-set-other}
 use borrow.Author.Tests.{ltb-true, ltb-false, eqb-true, eqb-false, eq-eqb, ne-eqb}
 use Rattle.format.specs.declared.Format.{Format}
 use Rattle.format.specs.declared.Refusal.the-variants.{Field}
-use Rattle.format.specs.Refusals.{Result, value, refused, check, guarded}
+use Rattle.format.specs.Refusals.{value, check, guarded}
 use Rattle.format.proofs.Tests.{each, from-each}
 use Rattle.format.proofs.Checks.{passed}
 use Rattle.frame.specs.Judge.{Frame, Judged, judge}
-use Rattle.stream.specs.declared.Progress.{Progress}
 use Rattle.stream.specs.Answers.{filtered}
-use Rattle.stream.specs.Step.{Next, step}
+use Rattle.stream.specs.Step.{step}
 use Rattle.slot.specs.declared.Key.{Key}
 use Rattle.slot.specs.declared.Occupancy.{Occupancy}
 use Rattle.slot.specs.declared.Occupancy.the-variants.{Closed, Open}
@@ -27,7 +26,7 @@ use Rattle.slot.specs.Sound.{keyInRange, fits, slotSound, slotsSound, keysDiffe
 use Rattle.slot.proofs.Keys.{same-key}
 use Rattle.station.specs.declared.Station.{Station}
 use Rattle.station.specs.Stations.{soundStation, area, withArea, fullSize}
-use Rattle.station.specs.Receive.{After, unchanged, keyOf, progressIn, progressOf, stepAt, deliver, judgedAs, examined, receive}
+use Rattle.station.specs.Receive.{After, unchanged, progressIn, progressOf, stepAt, deliver, judgedAs, examined, receive}
 use Rattle.station.proofs.Areas.{area-length, put-length, put-same, put-other}
 use Rattle.station.proofs.Steps.{Carrying, judged-carries, Keeps, keeps}
 use Rattle.station.proofs.Slots.{found, sound-at, sound-set, differ-set}

@@ -1,17 +1,16 @@
 -- Demand 3, by induction over the calls.
-use Prim.Native.Nat.{ℕ, _*_, _<_}
+use Prim.Native.Nat.{ℕ, _<_}
 use mathlib.Core.Path.{_≡_, refl, sym, ap, _∙_, subst, subst₂}
-use mathlib.Core.Bool.{Bool, true, false, cond}
+use mathlib.Core.Bool.{Bool, true, false}
 use mathlib.Core.List.{List, [], _∷_}
 use native.Mathlib.Omega.{arith}
-use lib.ListN.{length, getD}
 use lib.Seq.{ext-getD}
 use Rattle.format.specs.declared.Format.{Format}
 use Rattle.format.specs.Refusals.{Result, value, refused}
 use Rattle.frame.specs.Judge.{Frame, Judged}
 use Rattle.stream.specs.declared.Progress.{Progress}
 use Rattle.stream.specs.Answers.{Reply}
-use Rattle.stream.specs.Step.{Next, step}
+use Rattle.stream.specs.Step.{step}
 use Rattle.slot.specs.declared.Key.{Key}
 use Rattle.slot.specs.declared.Stream.{Stream}
 use Rattle.slot.specs.declared.Slot.{Slot}
@@ -20,14 +19,14 @@ use Rattle.slot.specs.declared.Occupancy.the-variants.{Closed, Open}
 use Rattle.slot.specs.Slots.{closedSlot, openSlot, slotAt, sameKey, hasKey}
 use Rattle.slot.proofs.Keys.{same-key}
 use Rattle.station.specs.declared.Station.{Station}
-use Rattle.station.specs.Stations.{soundStation, area, fullSize}
-use Rattle.station.specs.Receive.{After, unchanged, keyOf, progressOf, deliver, judgedAs, examined, receive}
+use Rattle.station.specs.Stations.{area}
+use Rattle.station.specs.Receive.{After, keyOf, progressOf, deliver, judgedAs, examined, receive}
 use Rattle.station.specs.Read.{reading}
 use Rattle.station.specs.Run.{Call, Ran, run, addIfOf, framesOf, answersOf, Alone, oneStream}
-use Rattle.station.specs.Demands.{IsStream, IsClosed, shown, alone, Isolated, SameFrames, Agree, Demand3}
+use Rattle.station.specs.Demands.{IsStream, shown, alone, Isolated, SameFrames, Agree, Demand3}
 use Rattle.station.proofs.Areas.{ext-areas}
 use Rattle.station.proofs.Steps.{Carrying}
-use Rattle.station.proofs.Calls.{Good, good, Touch, Follows, delivered, let-in, frame-carries}
+use Rattle.station.proofs.Calls.{Good, good, Touch, delivered, let-in, frame-carries}
 
 -- a run has ended: what every slot has in common
 pub record Ended (format : Format) (ran : Ran) : Type 0 where

@@ -6,3 +6,5 @@ mod Isolation
 mod Pieces
 mod RoundTrip
 mod Soundness
+mod Turning
+mod Handing

@@ -1,10 +1,9 @@
 -- The pieces of a packet, fed in order to a stream alone, end in that packet: one proof for both formats.
-use Prim.Native.Nat.{ℕ, zero, suc, _+_, _-_, _*_, _/_, _%_, _≤_, _<_}
+use Prim.Native.Nat.{ℕ, zero, suc, _+_, _-_, _*_, _%_, _≤_, _<_}
 use mathlib.Core.Path.{_≡_, refl, sym, ap, _∙_}
 use mathlib.Core.Bool.{Bool, true, false, cond}
 use mathlib.Core.List.{List, [], _∷_, _++_, append-assoc}
 use native.Mathlib.Nat.{mul-suc, mul-div-cancel-left, mul-zero}
-use native.Mathlib.Numerals.{add-one}
 use native.Mathlib.Omega.{arith}
 use lib.Dec.{leb, eqb}
 use lib.ListN.{length, take, drop, replicate, length-append}
@@ -19,8 +18,8 @@ use Rattle.format.specs.Refusals.{Result, value}
 use Rattle.format.proofs.Limits.{some-bytes, eight-bytes}
 use Rattle.frame.specs.Judge.{Frame}
 use Rattle.packet.specs.Split.{pieceCount, pieceFlag, pieceBytes, piece, piecesFrom, pieces}
-use Rattle.packet.proofs.Counts.{Several, several, bytes-single, bytes-several}
-use Rattle.packet.proofs.Pieces.{flag-single, flag-several, count-pieces}
+use Rattle.packet.proofs.Counts.{Several, several, bytes-several}
+use Rattle.packet.proofs.Pieces.{flag-several, count-pieces}
 use Rattle.stream.specs.declared.Progress.{Progress}
 use Rattle.stream.specs.declared.Progress.the-variants.{Collecting, Done}
 use Rattle.stream.specs.Answers.{Reply, packet, kept}

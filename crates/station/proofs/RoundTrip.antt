@@ -4,40 +4,36 @@ use mathlib.Core.Path.{_≡_, refl, sym, ap, _∙_, subst}
 use mathlib.Core.Bool.{Bool, true, false, cond}
 use mathlib.Core.List.{List, [], _∷_, _++_}
 use native.Mathlib.Omega.{arith}
-use lib.Dec.{leb, ltb, eqb}
-use lib.ListN.{length, take, drop}
+use lib.Dec.{leb}
+use lib.ListN.{length, drop}
 use lib.Seq.{take-at}
 use borrow.Author.Tests.{lt-ltb, eq-eqb}
 use Rattle.bytes.specs.Copy.{written}
 use Rattle.format.specs.declared.Format.{Format}
 use Rattle.format.specs.declared.Format.the-variants.{Extended, Standard}
-use Rattle.format.specs.declared.Fields.{Fields}
 use Rattle.format.specs.declared.Refusal.the-variants as refusal
-use Rattle.format.specs.Formats.{packetLimit, packetStart, pieceSize, formatOf, inRange}
-use Rattle.format.specs.Refusals.{Result, value, refused, check, guarded}
+use Rattle.format.specs.Formats.{packetLimit, pieceSize, formatOf}
+use Rattle.format.specs.Refusals.{Result, value, refused, guarded}
 use Rattle.format.proofs.Tests.{each, from-each}
 use Rattle.format.proofs.Checks.{pass, none-left}
 use Rattle.format.proofs.Limits.{most-bytes}
-use Rattle.frame.specs.Judge.{Frame, Judged, judge}
+use Rattle.frame.specs.Judge.{Frame, Judged}
 use Rattle.frame.specs.Image.{imageOf}
 use Rattle.packet.specs.Split.{pieceCount, piece, piecesFrom, pieces}
 use Rattle.packet.specs.Claims.{IsSplit, Splitting}
 use Rattle.packet.proofs.Pieces.{splitting, count-pieces}
-use Rattle.stream.specs.declared.Progress.{Progress}
 use Rattle.stream.specs.declared.Progress.the-variants.{Done}
-use Rattle.stream.specs.Answers.{Reply}
 use Rattle.stream.specs.Step.{collecting}
 use Rattle.slot.specs.declared.Key.{Key}
-use Rattle.slot.specs.declared.Slot.{Slot}
 use Rattle.slot.specs.declared.Stream.{Stream}
 use Rattle.slot.specs.Slots.{openSlot, slotAt, sameKey}
 use Rattle.slot.specs.Sound.{sameFormat, keyInRange, slotSound}
 use Rattle.slot.proofs.Keys.{same-key-refl}
 use Rattle.station.specs.declared.Station.{Station}
 use Rattle.station.specs.Stations.{soundStation, area, fullSize}
-use Rattle.station.specs.Receive.{keyOf, progressOf, examined}
+use Rattle.station.specs.Receive.{keyOf, examined}
 use Rattle.station.specs.Read.{reading}
-use Rattle.station.specs.Run.{Call, run, addIfOf, framesOf, answersOf, Alone, oneStream}
+use Rattle.station.specs.Run.{Call, run, addIfOf, framesOf, Alone, oneStream}
 use Rattle.station.specs.Demands.{IsStream, shown, alone, Demand3, fed, woven, answersTo, RoundTrip}
 use Rattle.station.proofs.Slots.{sound-at}
 use Rattle.station.proofs.Calls.{Good, good, stays-sound}

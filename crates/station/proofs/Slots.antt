@@ -1,5 +1,5 @@
 -- Slots whose open keys differ: a key is open where it is found, and nowhere else; and what setting one slot keeps.
-use Prim.Native.Nat.{ℕ, zero, suc, _<_, _≤_}
+use Prim.Native.Nat.{ℕ, zero, suc, _<_}
 use mathlib.Core.Path.{_≡_, refl, sym, ap, _∙_}
 use mathlib.Core.Logic.{_≢_}
 use mathlib.Core.Bool.{Bool, true, false, cond, not, _||_}
@@ -17,7 +17,7 @@ use Rattle.slot.specs.declared.Occupancy.{Occupancy}
 use Rattle.slot.specs.declared.Occupancy.the-variants.{Closed, Open}
 use Rattle.slot.specs.Slots.{closedSlot, slotAt, sameKey, openWith, hasKey, place}
 use Rattle.slot.specs.Sound.{slotSound, slotsSound, any, repeatedIn, keysDiffer}
-use Rattle.slot.proofs.Keys.{same-key, same-key-refl}
+use Rattle.slot.proofs.Keys.{same-key}
 
 -- ---- where a test holds
 

@@ -1,22 +1,21 @@
 -- Every call keeps a sound station sound; a sound standard station never answers LONG; and sound stations with streams exist.
-use Prim.Native.Nat.{ℕ, zero, suc, _≤_, _<_}
-use mathlib.Core.Path.{_≡_, refl, sym, ap, _∙_, subst}
+use Prim.Native.Nat.{ℕ, _≤_, _<_}
+use mathlib.Core.Path.{_≡_, refl, _∙_}
 use mathlib.Core.Logic.{_≢_}
 use mathlib.Core.Bool.{Bool, true, false, cond, not}
 use mathlib.Core.List.{List, [], _∷_}
 use native.Mathlib.Omega.{arith}
 use lib.Dec.{leb, ltb, eqb}
-use lib.ListN.{length, set, replicate, length-set}
+use lib.ListN.{length, set, length-set}
 use lib.Seq.{getD-set-same}
 use borrow.Author.Tests.{ltb-true, ltb-false, eqb-true, eq-eqb, ne-eqb, not-true}
 use Rattle.format.specs.declared.Format.{Format}
 use Rattle.format.specs.declared.Format.the-variants.{Extended, Standard}
-use Rattle.format.specs.declared.Refusal.{Refusal}
 use Rattle.format.specs.declared.Refusal.the-variants as refusal
 use Rattle.format.specs.Refusals.{Result, value, refused, Check, check, guarded, number}
 use Rattle.format.specs.Tests.{all, allAfter}
 use Rattle.format.proofs.Tests.{each, from-each}
-use Rattle.format.proofs.Checks.{passed, pass, none-left}
+use Rattle.format.proofs.Checks.{passed}
 use Rattle.frame.specs.Layout.{layout}
 use Rattle.frame.specs.Judge.{Frame, Judged, checks, readBy, judge}
 use Rattle.stream.specs.declared.Progress.the-variants.{Idle}
@@ -24,13 +23,12 @@ use Rattle.stream.specs.Answers.{Reply, filtered}
 use Rattle.stream.specs.Step.{step}
 use Rattle.slot.specs.declared.Key.{Key}
 use Rattle.slot.specs.declared.Slot.{Slot}
-use Rattle.slot.specs.declared.Stream.{Stream}
 use Rattle.slot.specs.Slots.{closedSlot, openSlot, slotAt, isClosed, hasKey, place}
-use Rattle.slot.specs.Sound.{keyInRange, fits, slotSound, slotsSound, keysDiffer, any, sound}
+use Rattle.slot.specs.Sound.{keyInRange, fits, slotSound, slotsSound, keysDiffer, sound}
 use Rattle.station.specs.declared.Station.{Station}
 use Rattle.station.specs.Stations.{newStation, soundStation, withSlots, area, fullSize}
 use Rattle.station.specs.Receive.{After, unchanged, keyOf, progressOf, stepAt, deliver, judgedAs, examined, receive}
-use Rattle.station.specs.Open.{Handed, handed, opening, isOpen, closing}
+use Rattle.station.specs.Open.{handed, opening, isOpen, closing}
 use Rattle.station.specs.Demands.{IsStream, StaysSound, NeverLong, CanBeMet}
 use Rattle.station.proofs.Slots.{clashes, found, sound-set, differ-set}
 use Rattle.station.proofs.Steps.{Carrying, never-long}

@@ -1,14 +1,14 @@
 -- What one step keeps: the size of the area, and that the progress fits; and that a standard stream never has LONG.
-use Prim.Native.Nat.{ℕ, _+_, _-_, _/_, _%_, _≤_, _<_}
-use mathlib.Core.Path.{_≡_, refl, sym, ap, _∙_}
+use Prim.Native.Nat.{ℕ, _+_, _-_, _≤_}
+use mathlib.Core.Path.{_≡_, refl, sym, _∙_}
 use mathlib.Core.Logic.{_≢_}
-use mathlib.Core.Bool.{Bool, true, false, cond, not}
-use mathlib.Core.List.{List, [], _∷_, _++_}
+use mathlib.Core.Bool.{Bool, true, false, cond}
+use mathlib.Core.List.{List}
 use native.Mathlib.Omega.{arith}
 use lib.Dec.{leb, eqb}
-use lib.ListN.{length, take, drop, length-append, length-drop}
+use lib.ListN.{length, drop, length-append, length-drop}
 use lib.Seq.{length-take-le}
-use borrow.Author.Tests.{leb-true, leb-false, eqb-true, le-leb}
+use borrow.Author.Tests.{leb-true, eqb-true, le-leb}
 use Rattle.bytes.specs.Copy.{written}
 use Rattle.format.specs.declared.Format.{Format}
 use Rattle.format.specs.declared.Format.the-variants.{Extended, Standard}
@@ -16,14 +16,13 @@ use Rattle.format.specs.declared.Flag.{Flag}
 use Rattle.format.specs.declared.Flag.the-variants.{Middle, Start, End, Single}
 use Rattle.format.specs.declared.Refusal.the-variants as refusal
 use Rattle.format.specs.Formats.{pieceSize, numberRange, headerSize, packetStart}
-use Rattle.format.specs.Refusals.{Result, value, refused, number}
+use Rattle.format.specs.Refusals.{value, refused, number}
 use Rattle.format.proofs.Tests.{each, from-each, tests}
 use Rattle.format.proofs.Checks.{passed}
 use Rattle.frame.specs.Layout.{layout}
 use Rattle.frame.specs.Judge.{Frame, Judged, pieceRule, checks, readBy, judge}
 use Rattle.stream.specs.declared.Progress.{Progress}
 use Rattle.stream.specs.declared.Progress.the-variants.{Idle, Collecting, Done}
-use Rattle.stream.specs.Answers.{Reply}
 use Rattle.stream.specs.Step.{Next, awaited, appended, followed, stepped, step}
 use Rattle.slot.specs.Sound.{fits}
 
@@ -71,6 +70,29 @@ judged-carries format image judged e =
     let t = each _ (p .0 .1 .1 .1 .0) in
     rw (sym (p .1))
     (of-layout format image (said .start) (start-is format image) (p .0 .1 .1 .1 .1 .0) (eqb-true _ _ (t .1 .0)))
+
+-- where the packet bytes of a sound image begin, and how many there are at most
+start-near : (format : Format) (flag : Flag) (count n size : ℕ) → pieceRule format flag count n ≡ true → size ≡ headerSize format + count
+    → (packetStart format flag ≤ size) × (size - packetStart format flag ≤ 8)
+unfolding pieceRule
+start-near Extended Single count n size r e = let u = each _ r in (omega tests, omega tests)
+start-near Extended Start count n size r e = let u = each _ r in (omega tests, omega tests)
+start-near Extended Middle count n size r e = (omega tests, omega tests)
+start-near Extended End count n size r e = let u = each _ r in (omega tests, omega tests)
+start-near Standard Single count n size r e = let u = each _ r in (omega tests, omega tests)
+start-near Standard Start count n size r e = let u = each _ r in (omega tests, omega tests)
+start-near Standard Middle count n size r e = let u = each _ r in (omega tests, omega tests)
+start-near Standard End count n size r e = let u = each _ r in (omega tests, omega tests)
+
+pub judged-start : (format : Format) (image : List ℕ) (judged : Judged) → judge format image ≡ value judged
+    → (judged .start ≤ length image) × (length image - judged .start ≤ 8)
+unfolding judge checks
+judged-start format image judged e =
+    let said = layout format image in
+    let p = passed (checks format (length image) said) (readBy said image) judged e in
+    let t = each _ (p .0 .1 .1 .1 .0) in
+    let n = start-near format (said .flag) (said .count) (said .number) (length image) (p .0 .1 .1 .1 .1 .0) (eqb-true _ _ (t .1 .0)) in
+    rw (sym (p .1), start-is format image) n
 
 -- ---- writing keeps the size
 

@@ -15,8 +15,7 @@ use Rattle.format.specs.Formats.{packetLimit}
 use Rattle.frame.specs.Judge.{Frame}
 use Rattle.frame.specs.Image.{imageOf}
 use Rattle.packet.specs.Split.{pieces}
-use Rattle.stream.specs.declared.Progress.{Progress}
-use Rattle.stream.specs.declared.Progress.the-variants.{Idle, Done}
+use Rattle.stream.specs.declared.Progress.the-variants.{Idle}
 use Rattle.stream.specs.Answers.{Reply, packet, kept}
 use Rattle.stream.specs.Step.{collecting}
 use Rattle.slot.specs.declared.Key.{Key}

@@ -4,3 +4,4 @@ pub mod Receive
 pub mod Open
 pub mod Read
 pub mod Run
+pub mod Parts

@@ -2,7 +2,7 @@
 -- changes no store byte." "Refusal numbers", order: 21, 9; for opening 14, 15; for closing 16. Each answers the slot's number.
 use Prim.Native.Nat.{ℕ}
 use mathlib.Core.Bool.{Bool, not}
-use mathlib.Core.List.{List, [], _∷_}
+use mathlib.Core.List.{[], _∷_}
 use lib.Dec.{ltb}
 use lib.ListN.{set}
 use Rattle.format.specs.declared.Refusal.the-variants as refusal

@@ -2,7 +2,7 @@
 -- open key answers "filtered" and changes nothing." "Refusal numbers", order: 21, 13, 9, then for images 1 to 8; "Nothing is
 -- written and the state handed back is the one handed in, except the idle slot after 7 and 8."
 use Prim.Native.Nat.{ℕ}
-use mathlib.Core.Bool.{Bool, cond}
+use mathlib.Core.Bool.{cond}
 use mathlib.Core.List.{List, [], _∷_}
 use lib.Dec.{leb, ltb}
 use lib.ListN.{set}
@@ -21,6 +21,7 @@ use Rattle.slot.specs.declared.Slot.{Slot}
 use Rattle.slot.specs.Slots.{openSlot, slotAt, hasKey, place}
 use Rattle.station.specs.declared.Station.{Station}
 use Rattle.station.specs.declared.Received.{Received}
+use Rattle.station.specs.declared.Turn.{Turn}
 use Rattle.station.specs.Stations.{soundStation, withSlots, area, withArea, fullSize}
 
 -- the answer, the station handed back, the store's bytes
@@ -78,3 +79,13 @@ receive station store bus image =
 -- what the code hands back, and the store afterwards, say
 abbrev pub after : Received → List ℕ → After
 after r store = record { answer = meaning (r .answer); station = r .station; store = store }
+
+-- the same for the work over the bare slots, which names one slot, what it becomes, and the answer; where no slot changes, the one
+-- named becomes what it was
+abbrev pub afterTurn : Format → List Slot → Turn → List ℕ → After
+afterTurn format slots r store =
+    record {
+      answer = meaning (r .answer);
+      station = record { format = format; slots = set slots (r .at) (r .slot) };
+      store = store;
+    }

@@ -1,8 +1,32 @@
 // A station: sixteen slots of one format; receiving, opening, closing and reading.
 use format::Format;
 use format::Outcome;
+use format::Refusal;
+use frame::Head;
+use frame::Verdict;
+use frame::judge;
+use slot::Key;
+use slot::Occupancy;
 use slot::Slot;
+use slot::Sought;
+use slot::Stream;
+use slot::first_closed;
+use slot::key_in_range;
+use slot::seek;
+use slot::sound;
 use stream::Answer;
+use stream::Progress;
+use stream::step;
+ghost use mathlib.Core.Path.{_≡_};
+ghost use Prim.Native.Nat.{_-_, _≤_, _<_};
+ghost use lib.ListN.{length};
+ghost use Rattle.format.specs.Refusals.{meaning};
+ghost use Rattle.slot.specs.Slots.{closedSlot, openSlot};
+ghost use Rattle.station.specs.Stations.{newStation};
+ghost use Rattle.station.specs.Receive.{keyOf, progressIn, receive, after, afterTurn};
+ghost use Rattle.station.specs.Open as handing;
+ghost use Rattle.station.specs.Read.{reading, lengthOf, partOf};
+ghost use Rattle.station.specs.Parts.{refusedAs, frameOf, Steps, openAt};
 
 pub struct Station {
     pub format: Format,
@@ -15,8 +39,301 @@ pub struct Received {
     pub answer: Answer,
 }
 
+// One receiving turn over the bare slots: a slot, what it becomes, and the answer. Where no slot
+// changes, the slot named becomes what it was.
+pub struct Turn {
+    pub at: usize,
+    pub slot: Slot,
+    pub answer: Answer,
+}
+
 // What opening and closing hand back: the next station, and the slot's number or a refusal.
 pub struct Changed {
     pub station: Station,
     pub answer: Outcome,
+}
+
+fn progress_in(occupancy: Occupancy) -> Progress
+    ensures { λ r. ⌜ r ≡ progressIn occupancy ⌝ }
+{
+    match occupancy {
+        Occupancy::Closed => Progress::Idle,
+        Occupancy::Open(stream) => stream.progress,
+    }
+}
+
+fn open_slot(key: Key, progress: Progress) -> Slot
+    ensures { λ r. ⌜ r ≡ openSlot key progress ⌝ }
+{
+    let stream = Stream {
+        key: key,
+        progress: progress,
+    };
+    Slot {
+        occupancy: Occupancy::Open(stream),
+    }
+}
+
+fn closed_slot() -> Slot
+    ensures { λ r. ⌜ r ≡ closedSlot ⌝ }
+{
+    Slot {
+        occupancy: Occupancy::Closed,
+    }
+}
+
+// The refusal of an image that is refused by own: the station, the store and the bus come first.
+fn refused_as(format: Format, slots: [Slot; 16], size: usize, bus: u8, own: Refusal) -> Refusal
+    ensures { λ r. ⌜ r ≡ refusedAs format slots size bus own ⌝ }
+{
+    if !sound(format, slots) {
+        return Refusal::State;
+    }
+    if size != 32768 {
+        return Refusal::Store;
+    }
+    if bus > 1 {
+        return Refusal::Field;
+    }
+    own
+}
+
+// The stream of slot i steps: its area is lent on, and it becomes open with what comes of it.
+fn step_at(
+    format: Format,
+    slot: Slot,
+    i: usize,
+    bus: u8,
+    head: Head,
+    image: &[u8],
+    store: &mut [u8],
+) -> Turn
+    requires { ⌜ (i < 16) × (length (now store) ≡ 32768) × (head .start ≤ length (now image)) × (length (now image) - head .start ≤ 8) ⌝ }
+    ensures { λ r. ⌜ Steps format slot i (keyOf bus (frameOf head (now (image .entry)))) (frameOf head (now (image .entry))) (now (store .entry)) r (now (store .exit)) ⌝ }
+{
+    let occupancy = slot.occupancy;
+    let progress = progress_in(occupancy);
+    let flag = head.flag;
+    let start = head.start;
+    let a = 2048 * i;
+    let e = a + 2048;
+    let next = step(
+        format,
+        progress,
+        flag,
+        head.number,
+        &image[start..],
+        &mut store[a..e],
+    );
+    let fields = head.fields;
+    let key = Key {
+        bus: bus,
+        fields: fields,
+    };
+    let reached = next.progress;
+    let stepped = open_slot(key, reached);
+    let answer = next.answer;
+    Turn {
+        at: i,
+        slot: stepped,
+        answer: answer,
+    }
+}
+
+fn unchanged(first: Slot, answer: Answer) -> Turn
+    ensures { λ r. ⌜ r ≡ record { at = 0; slot = first; answer = answer } ⌝ }
+{
+    Turn {
+        at: 0,
+        slot: first,
+        answer: answer,
+    }
+}
+
+// Receives an image on a bus, over the bare slots and the lent store: the work of every front.
+pub fn take_turn(format: Format, slots: [Slot; 16], store: &mut [u8], bus: u8, image: &[u8]) -> Turn
+    ensures { λ r. ⌜ r .at < 16 ⌝ }
+    ensures { λ r. ⌜ afterTurn format slots r (now (store .exit)) ≡ receive (record { format = format; slots = slots }) (now (store .entry)) bus (now (image .entry)) ⌝ }
+{
+    let first = slots[0];
+    match judge(format, image) {
+        Verdict::Refused(own) => {
+            let name = refused_as(format, slots, store.len(), bus, own);
+            unchanged(first, Answer::Refused(name))
+        }
+        Verdict::Sound(head) => {
+            let fields = head.fields;
+            let key = Key {
+                bus: bus,
+                fields: fields,
+            };
+            match seek(format, slots, key) {
+                Sought::Unsound => unchanged(first, Answer::Refused(Refusal::State)),
+                Sought::At(i) => {
+                    if store.len() != 32768 {
+                        return unchanged(first, Answer::Refused(Refusal::Store));
+                    }
+                    if bus > 1 {
+                        return unchanged(first, Answer::Refused(Refusal::Field));
+                    }
+                    if i >= 16 {
+                        return unchanged(first, Answer::Filtered);
+                    }
+                    let slot = slots[i];
+                    step_at(format, slot, i, bus, head, image, store)
+                }
+            }
+        }
+    }
+}
+
+fn open_at(slots: [Slot; 16], i: usize) -> bool
+    ensures { λ r. ⌜ r ≡ openAt slots i ⌝ }
+{
+    if i >= 16 {
+        return false;
+    }
+    let slot = slots[i];
+    let occupancy = slot.occupancy;
+    match occupancy {
+        Occupancy::Closed => false,
+        Occupancy::Open(_) => true,
+    }
+}
+
+impl Station {
+    // A station of a format, with every slot closed.
+    pub fn new(format: Format) -> Station
+        ensures { λ r. ⌜ r ≡ newStation format ⌝ }
+    {
+        let slot = closed_slot();
+        let slots = [slot; 16];
+        Station { format, slots }
+    }
+
+    // Receives an image on a bus; the store is lent. Answers packet and its length, kept, filtered
+    // or a refusal: STATE, STORE, FIELD, LENGTH, FORM, REMOTE, COUNT, PIECE, ORPHAN, STEP, LONG.
+    pub fn receive(mut self, store: &mut [u8], bus: u8, image: &[u8]) -> Received
+        ensures { λ r. ⌜ after r (now (store .exit)) ≡ receive self (now (store .entry)) bus (now (image .entry)) ⌝ }
+    {
+        let format = self.format;
+        let slots = self.slots;
+        let t = take_turn(format, slots, store, bus, image);
+        let at = t.at;
+        let slot = t.slot;
+        self.slots[at] = slot;
+        let answer = t.answer;
+        Received {
+            station: self,
+            answer: answer,
+        }
+    }
+
+    // Opens a key in the lowest closed slot and answers that slot's number, or refuses: STATE,
+    // FIELD, TAKEN, FULL.
+    pub fn open(mut self, key: Key) -> Changed
+        ensures { λ r. ⌜ handing.after r ≡ handing.opening self key ⌝ }
+    {
+        let format = self.format;
+        let slots = self.slots;
+        match seek(format, slots, key) {
+            Sought::Unsound => Changed {
+                station: self,
+                answer: Outcome::Refused(Refusal::State),
+            },
+            Sought::At(i) => {
+                if !key_in_range(format, key) {
+                    return Changed {
+                        station: self,
+                        answer: Outcome::Refused(Refusal::Field),
+                    };
+                }
+                if i < 16 {
+                    return Changed {
+                        station: self,
+                        answer: Outcome::Refused(Refusal::Taken),
+                    };
+                }
+                let lowest = first_closed(slots);
+                if lowest >= 16 {
+                    return Changed {
+                        station: self,
+                        answer: Outcome::Refused(Refusal::Full),
+                    };
+                }
+                let slot = open_slot(key, Progress::Idle);
+                self.slots[lowest] = slot;
+                Changed {
+                    station: self,
+                    answer: Outcome::Value(lowest),
+                }
+            }
+        }
+    }
+
+    // Closes a slot and answers its number, or refuses: STATE, CLOSED.
+    pub fn close(mut self, i: usize) -> Changed
+        ensures { λ r. ⌜ handing.after r ≡ handing.closing self i ⌝ }
+    {
+        let format = self.format;
+        let slots = self.slots;
+        if !sound(format, slots) {
+            return Changed {
+                station: self,
+                answer: Outcome::Refused(Refusal::State),
+            };
+        }
+        if !open_at(slots, i) {
+            return Changed {
+                station: self,
+                answer: Outcome::Refused(Refusal::Closed),
+            };
+        }
+        let slot = closed_slot();
+        self.slots[i] = slot;
+        Changed {
+            station: self,
+            answer: Outcome::Value(i),
+        }
+    }
+
+    // The length of the packet of a slot that is done, or a refusal: STATE, STORE, CLOSED,
+    // NOPACKET.
+    pub fn read_length(self, store: &[u8], i: usize) -> Outcome
+        ensures { λ r. ⌜ meaning r ≡ lengthOf (reading self (now (store .entry)) i) ⌝ }
+    {
+        let format = self.format;
+        let slots = self.slots;
+        if !sound(format, slots) {
+            return Outcome::Refused(Refusal::State);
+        }
+        if store.len() != 32768 {
+            return Outcome::Refused(Refusal::Store);
+        }
+        if !open_at(slots, i) {
+            return Outcome::Refused(Refusal::Closed);
+        }
+        let slot = slots[i];
+        let occupancy = slot.occupancy;
+        match progress_in(occupancy) {
+            Progress::Idle => Outcome::Refused(Refusal::NoPacket),
+            Progress::Collecting(_) => Outcome::Refused(Refusal::NoPacket),
+            Progress::Done(h) => Outcome::Value(h as usize),
+        }
+    }
+
+    // The packet of a slot that is done: that part of the store itself, the head of the slot's
+    // area. Empty where read_length refuses.
+    pub fn read(self, store: &[u8], i: usize) -> &[u8]
+        ensures { λ r. ⌜ now r ≡ partOf (reading self (now (store .entry)) i) ⌝ }
+    {
+        match self.read_length(store, i) {
+            Outcome::Refused(_) => &store[..0],
+            Outcome::Value(h) => {
+                let from = 2048 * i;
+                let to = from + h;
+                &store[from..to]
+            }
+        }
+    }
 }

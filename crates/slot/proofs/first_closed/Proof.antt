@@ -1,0 +1,72 @@
+-- `slot::first_closed` meets its contract: no slot before i is closed.
+use Prim.Native.Nat.{_+_, _≤_, _-_}
+use mathlib.Core.Path.{_≡_, _∙_, sym}
+use native.Mathlib.Omega.{arith}
+use borrow.Author.Needs.{needs}
+use lib.ListN.{length, drop}
+use Rattle.slot.specs.Slots.{isClosed, closedSlot, place}
+use Rattle.slot.proofs.Places.{here, on, out}
+use Rattle.slot.proofs.first_closed.Statement.{statement}
+use Rattle.slot.proofs.first_closed.Tie as tie
+
+abbrev Inv-loop : tie.InvT-loop
+Inv-loop slots i₀ i = (i ≤ 16) × (place isClosed slots ≡ i + place isClosed (drop i slots))
+
+abbrev μ-loop : tie.MeasureT-loop
+μ-loop slots i₀ i = 16 - i
+
+sixteen : (c : tie.Start Inv-loop μ-loop) → length (c .args .t1) ≡ 16
+sixteen c = c .good .0 .1 .0 .1
+
+loop-holds : tie.Need-loop-holds Inv-loop μ-loop
+loop-holds c = (omega arith, omega arith)
+
+mul-slot : tie.Need-mul-slot Inv-loop μ-loop
+mul-slot c = search needs
+
+array-copy-out-slot : tie.Need-array-copy-out-slot Inv-loop μ-loop
+array-copy-out-slot c = search needs
+
+is-closed-requires : tie.Need-is-closed-requires Inv-loop μ-loop
+is-closed-requires c κs = search needs
+
+returns : tie.Need-returns Inv-loop μ-loop
+returns c =
+    let a = c .before .before .before .before in
+    let n = sixteen (a .before) in
+    here isClosed (a .before .args .t1) (a .loop .i) closedSlot (omega arith) (a .loop .inv .1) (sym (c .before .is-closed .ensures) ∙ c .if1 .taken)
+
+add-i : tie.Need-add-i Inv-loop μ-loop
+add-i c = search needs
+
+loop-less : tie.Need-loop-less Inv-loop μ-loop
+loop-less c = search needs
+
+loop-again : tie.Need-loop-again Inv-loop μ-loop
+loop-again c =
+    let a = c .before .before .before .before in
+    let n = sixteen (a .before) in
+    (search needs, on isClosed (a .before .args .t1) (a .loop .i) closedSlot (omega arith) (a .loop .inv .1) (sym (c .before .is-closed .ensures) ∙ c .if1 .left))
+
+returns-2 : tie.Need-returns-2 Inv-loop μ-loop
+returns-2 c =
+    let a = c .before in
+    let n = sixteen (a .before) in
+    let e : a .loop .i ≡ 16 = omega arith in
+    sym e ∙ out isClosed (a .before .args .t1) (a .loop .i) (omega arith) (a .loop .inv .1)
+
+pub first-closed-spec : {M : Type 1} → statement M
+first-closed-spec =
+    tie.close
+    (tie.spec
+    Inv-loop
+    μ-loop
+    loop-holds
+    mul-slot
+    array-copy-out-slot
+    is-closed-requires
+    returns
+    add-i
+    loop-less
+    loop-again
+    returns-2)

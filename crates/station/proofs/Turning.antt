@@ -1,0 +1,175 @@
+-- What receiving is, case by case, for the code's proofs.
+use Prim.Native.Nat.{ℕ, _+_, _-_, _*_, _≤_, _<_}
+use mathlib.Core.Path.{_≡_, refl, sym, ap, _∙_}
+use mathlib.Core.Logic.{_≢_}
+use mathlib.Core.Bool.{Bool, true, false, cond}
+use mathlib.Core.List.{List, _++_}
+use native.Mathlib.Omega.{arith}
+use lib.Dec.{leb, eqb}
+use lib.ListN.{length, set, take, drop, length-drop}
+use lib.Seq.{set-getD, take-all, drop-drop}
+use borrow.Rule.Slice.PartMut.{putMid}
+use borrow.Author.Tests.{eq-eqb, ne-eqb, lt-ltb, le-ltb, lt-leb, le-leb}
+use Rattle.format.specs.declared.Format.{Format}
+use Rattle.format.specs.declared.Refusal.{Refusal}
+use Rattle.format.specs.declared.Refusal.the-variants.{Field, Store, State}
+use Rattle.format.specs.Refusals.{Result, value, refused, number, guarded}
+use Rattle.frame.specs.declared.Head.{Head}
+use Rattle.frame.specs.declared.Verdict.{Verdict}
+use Rattle.frame.specs.declared.Verdict.the-variants as verdict
+use Rattle.frame.specs.Judge as verdicts
+use Rattle.frame.specs.Judge.{Frame, Judged, judge}
+use Rattle.stream.specs.declared.Answer.{Answer}
+use Rattle.stream.specs.declared.Answer.the-variants.{Refused, Filtered}
+use Rattle.stream.specs.declared.Progress.{Progress}
+use Rattle.stream.specs.declared.Stepped.{Stepped}
+use Rattle.stream.specs.Answers.{meaning}
+use Rattle.stream.specs.Step.{Next, step, offered, after}
+use Rattle.slot.specs.declared.Key.{Key}
+use Rattle.slot.specs.declared.Slot.{Slot}
+use Rattle.slot.specs.declared.Sought.{Sought}
+use Rattle.slot.specs.declared.Sought.the-variants.{Unsound, At}
+use Rattle.slot.specs.Slots.{closedSlot, openSlot, slotAt, hasKey, place}
+use Rattle.slot.specs.Sound.{sound, sought}
+use Rattle.station.specs.declared.Station.{Station}
+use Rattle.station.specs.declared.Turn.{Turn}
+use Rattle.station.specs.Stations.{area, withArea}
+use Rattle.station.specs.Receive.{After, unchanged, keyOf, progressOf, stepAt, deliver, judgedAs, receive, afterTurn}
+use Rattle.station.specs.Parts.{refusedAs, frameOf, Steps}
+use Rattle.station.proofs.Areas.{area-length}
+use Rattle.station.proofs.Steps.{judged-start}
+
+abbrev pub stationOf : Format → List Slot → Station
+stationOf format slots = record { format = format; slots = slots }
+
+abbrev pub turnOf : ℕ → Slot → Answer → Turn
+turnOf at slot answer = record { at = at; slot = slot; answer = answer }
+
+-- what a search says of the slots
+pub sought-unsound : (format : Format) (slots : List Slot) (key : Key) → sought format slots key ≡ Unsound → sound format slots ≡ false
+sought-unsound format slots key e = go (sound format slots) e
+  where
+    go : (b : Bool) → cond b (At (place (hasKey key) slots)) Unsound ≡ Unsound → b ≡ false
+    go true e = let z : _≡_ {A = ℕ} 0 1 = cc in absurd (omega arith)
+    go false e = refl
+
+pub sought-at : (format : Format) (slots : List Slot) (key : Key) (i : ℕ) → sought format slots key ≡ At i
+    → (sound format slots ≡ true) × (place (hasKey key) slots ≡ i)
+sought-at format slots key i e = go (sound format slots) e
+  where
+    go : (b : Bool) → cond b (At (place (hasKey key) slots)) Unsound ≡ At i → (b ≡ true) × (place (hasKey key) slots ≡ i)
+    go true e = (refl, (cc))
+    go false e = let z : _≡_ {A = ℕ} 0 1 = cc in absurd (omega arith)
+
+module _ (format : Format) (slots : List Slot) (store : List ℕ) (bus : ℕ) (image : List ℕ) where
+  -- no slot changes
+  stays : (answer : Answer) (r : After) → r ≡ unchanged (stationOf format slots) store (meaning answer)
+      → afterTurn format slots (turnOf 0 (slotAt slots 0) answer) store ≡ r
+  stays answer r e = rw (set-getD slots 0 closedSlot) (sym e)
+
+  -- the image is refused
+  pub at-image : (own : Refusal) → refused (number own) ≡ judge format image
+      → afterTurn format slots (turnOf 0 (slotAt slots 0) (Refused (refusedAs format slots (length store) bus own))) store
+      ≡ receive (stationOf format slots) store bus image
+  unfolding refusedAs receive guarded
+  at-image own e = go (sound format slots) (eqb (length store) 32768) (leb bus 1)
+    where
+      go : (s w b : Bool)
+          → afterTurn format slots (turnOf 0 (slotAt slots 0) (Refused (cond s (cond w (cond b own Field) Store) State))) store
+          ≡ judgedAs (stationOf format slots) store bus (cond s (cond w (cond b (value (judge format image)) (refused 9)) (refused 13)) (refused 21))
+      go false w b = stays (Refused State) _ refl
+      go true false b = stays (Refused Store) _ refl
+      go true true false = stays (Refused Field) _ refl
+      go true true true = stays (Refused own) _ (ap (λ (j : Result Judged). judgedAs (stationOf format slots) store bus (value j)) (sym e))
+
+  pub at-state : sound format slots ≡ false
+      → afterTurn format slots (turnOf 0 (slotAt slots 0) (Refused State)) store ≡ receive (stationOf format slots) store bus image
+  unfolding receive guarded
+  at-state s = stays (Refused State) _ (rw s)
+
+  pub at-store : sound format slots ≡ true → length store ≢ 32768
+      → afterTurn format slots (turnOf 0 (slotAt slots 0) (Refused Store)) store ≡ receive (stationOf format slots) store bus image
+  unfolding receive guarded
+  at-store s w = stays (Refused Store) _ (rw (s, ne-eqb (length store) 32768 w))
+
+  module _ (s : sound format slots ≡ true) (w : length store ≡ 32768) where
+    pub at-field : 1 < bus → afterTurn format slots (turnOf 0 (slotAt slots 0) (Refused Field)) store ≡ receive (stationOf format slots) store bus image
+    unfolding receive guarded
+    at-field b = stays (Refused Field) _ (rw (s, eq-eqb (length store) 32768 w, lt-leb bus 1 b))
+
+    module _ (b : bus ≤ 1) (judged : Judged) (e : value judged ≡ judge format image) where
+      as-frame : receive (stationOf format slots) store bus image ≡ deliver (stationOf format slots) store (keyOf bus (judged .frame)) (judged .frame)
+      unfolding receive guarded
+      as-frame = rw (s, eq-eqb (length store) 32768 w, le-leb bus 1 b, sym e)
+
+      module _ (i : ℕ) (p : place (hasKey (keyOf bus (judged .frame))) slots ≡ i) where
+        pub at-none : 16 ≤ i → afterTurn format slots (turnOf 0 (slotAt slots 0) Filtered) store ≡ receive (stationOf format slots) store bus image
+        unfolding deliver
+        at-none h = rw as-frame (stays Filtered _ (rw (p, le-ltb i 16 h)))
+
+        pub at-slot : i < 16 → (r : Turn) (last : List ℕ) → Steps format (slotAt slots i) i (keyOf bus (judged .frame)) (judged .frame) store r last
+            → afterTurn format slots r last ≡ receive (stationOf format slots) store bus image
+        unfolding deliver stepAt
+        at-slot h r last t =
+            rw (as-frame, p, lt-ltb i 16 h)
+            (λ k. record {
+              answer = t .answer k;
+              station = record { format = format; slots = set slots (t .at k) (t .slot′ k) };
+              store = t .bytes k;
+            })
+
+-- ---- the stream of slot i steps on its area
+
+pub part-is : (store : List ℕ) (i : ℕ) → take (2048 * i + 2048 - 2048 * i) (drop (2048 * i) store) ≡ area store i
+unfolding area
+part-is store i = let e : 2048 * i + 2048 - 2048 * i ≡ 2048 = omega arith in rw e
+
+put-is : (store new : List ℕ) (i : ℕ) → putMid (2048 * i) (2048 * i + 2048 - 2048 * i) store new ≡ withArea store i new
+unfolding withArea
+put-is store new i =
+    let e : 2048 * i + 2048 - 2048 * i ≡ 2048 = omega arith in
+    ap (λ (n : ℕ). take (2048 * i) store ++ (new ++ drop n (drop (2048 * i) store))) e
+    ∙ ap (λ (x : List ℕ). take (2048 * i) store ++ (new ++ x)) (drop-drop 2048 (2048 * i) store)
+
+pub rest-is : (image : List ℕ) (start : ℕ) → take (length image - start) (drop start image) ≡ drop start image
+rest-is image start = take-all (length image - start) (drop start image) (omega (arith, length-drop start image))
+
+offered-is : (format : Format) (progress : Progress) (part : List ℕ) (frame : Frame) → length part ≡ 2048 → length (frame .bytes) ≤ 8
+    → offered format progress part (frame .flag) (frame .number) (frame .bytes) ≡ step format progress part frame
+unfolding offered step guarded
+offered-is format progress part frame l b = rw (eq-eqb (length part) 2048 l, le-leb (length (frame .bytes)) 8 b)
+
+pub steps : (format : Format) (slot : Slot) (i bus : ℕ) (frame : Frame) (store : List ℕ) → i < 16 → length store ≡ 32768 → length (frame .bytes) ≤ 8
+    → (next : Stepped) (new : List ℕ) (slot′ : Slot) → slot′ ≡ openSlot (keyOf bus frame) (next .progress)
+    → (progress : Progress) (part bytes : List ℕ) → after next new ≡ offered format progress part (frame .flag) (frame .number) bytes
+    → progress ≡ progressOf slot → part ≡ area store i → bytes ≡ frame .bytes
+    → Steps format slot i (keyOf bus frame) frame store (turnOf i slot′ (next .answer)) (putMid (2048 * i) (2048 * i + 2048 - 2048 * i) store new)
+unfolding area
+steps format slot i bus frame store h w b next new slot′ es progress part bytes e ep ea eb =
+    let made : after next new ≡ step format (progressOf slot) (area store i) frame =
+    e ∙ (λ k. offered format (ep k) (ea k) (frame .flag) (frame .number) (eb k))
+    ∙ offered-is format (progressOf slot) (area store i) frame (area-length 2048 16 store w i h) b in
+    record {
+      at = refl;
+      slot′ = es ∙ ap (λ (n : Next). openSlot (keyOf bus frame) (n .progress)) made;
+      answer = ap (λ (n : Next). n .answer) made;
+      bytes = put-is store new i ∙ ap (λ (n : Next). withArea store i (n .area)) made;
+    }
+
+-- ---- what the code knows once it has judged the image and sought its key
+
+pub record Found (format : Format) (slots : List Slot) (bus : ℕ) (image : List ℕ) (head : Head) (i : ℕ) : Type 0 where
+  pub ok : sound format slots ≡ true
+  pub placed : place (hasKey (keyOf bus (frameOf head image))) slots ≡ i
+  pub judged : value (record { frame = frameOf head image; start = head .start }) ≡ judge format image
+  pub start : head .start ≤ length image
+  pub bytes : length image - head .start ≤ 8
+
+pub found : (format : Format) (slots : List Slot) (bus : ℕ) (image : List ℕ) (head : Head) (i : ℕ) (v : Verdict) (s : Sought)
+    → verdicts.meaning v image ≡ judge format image → v ≡ verdict.Sound head
+    → s ≡ sought format slots (keyOf bus (frameOf head image)) → s ≡ At i → Found format slots bus image head i
+found format slots bus image head i v s e ev es ei =
+    let j = ap (λ (v : Verdict). verdicts.meaning v image) (sym ev) ∙ e in
+    let t = sought-at format slots (keyOf bus (frameOf head image)) i (sym es ∙ ei) in
+    let n = judged-start format image (record { frame = frameOf head image; start = head .start }) (sym j) in
+    record { ok = t .0; placed = t .1; judged = j; start = n .0; bytes = n .1 }
