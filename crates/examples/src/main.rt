@@ -7,51 +7,20 @@ use format::Outcome;
 use format::Refusal;
 use frame::Head;
 use frame::Verdict;
-use libc::STDOUT_FILENO;
-
-fn show_text(words: &[u8]) {
-    io::write_all(STDOUT_FILENO, words);
-}
-
-fn show_number(n: usize) {
-    io::print_decimal(STDOUT_FILENO, n as u64);
-}
-
-// A word and a number, with a blank before each.
-fn show_field(name: &[u8], value: u8) {
-    show_text(b" ");
-    show_text(name);
-    show_text(b" ");
-    show_number(value as usize);
-}
-
-fn show_byte(b: u8) {
-    show_text(b" ");
-    io::print_hex(STDOUT_FILENO, b as u64, 2);
-}
-
-// Bytes in hexadecimal, with a blank before each.
-fn show_hex(bytes: &[u8]) {
-    let mut i = 0;
-    while i < bytes.len() {
-        show_byte(bytes[i]);
-        i += 1;
-    }
-}
 
 fn show_format(format: Format) {
     match format {
-        Format::Extended => show_text(b"extended"),
-        Format::Standard => show_text(b"standard"),
+        Format::Extended => show::text(b"extended"),
+        Format::Standard => show::text(b"standard"),
     }
 }
 
 fn show_flag(flag: Flag) {
     match flag {
-        Flag::Middle => show_text(b" middle"),
-        Flag::Start => show_text(b" start"),
-        Flag::End => show_text(b" end"),
-        Flag::Single => show_text(b" single"),
+        Flag::Middle => show::text(b" middle"),
+        Flag::Start => show::text(b" start"),
+        Flag::End => show::text(b" end"),
+        Flag::Single => show::text(b" single"),
     }
 }
 
@@ -64,20 +33,20 @@ fn show_fields(fields: Fields) {
             destination,
             function,
         } => {
-            show_field(b"priority", priority);
-            show_field(b"source", source);
-            show_field(b"group", group);
-            show_field(b"destination", destination);
-            show_field(b"function", function);
+            show::field(b"priority", priority);
+            show::field(b"source", source);
+            show::field(b"group", group);
+            show::field(b"destination", destination);
+            show::field(b"function", function);
         }
         Fields::Standard {
             priority,
             address,
             side,
         } => {
-            show_field(b"priority", priority);
-            show_field(b"address", address);
-            show_field(b"side", side);
+            show::field(b"priority", priority);
+            show::field(b"address", address);
+            show::field(b"side", side);
         }
     }
 }
@@ -88,58 +57,58 @@ fn show_head(head: Head, image: &[u8]) {
     let start = head.start;
     show_fields(fields);
     show_flag(flag);
-    show_field(b"number", head.number);
-    show_text(b" bytes");
+    show::field(b"number", head.number);
+    show::text(b" bytes");
     if start <= image.len() {
-        show_hex(&image[start..]);
+        show::hex(&image[start..]);
     }
 }
 
 // An image, and what it is judged to be.
 fn show_judged(format: Format, image: &[u8]) {
     show_format(format);
-    show_hex(image);
-    show_text(b":");
+    show::hex(image);
+    show::text(b":");
     match frame::judge(format, image) {
         Verdict::Sound(head) => show_head(head, image),
-        Verdict::Refused(name) => show_field(b"refused", name.number()),
+        Verdict::Refused(name) => show::field(b"refused", name.number()),
     }
-    show_text(b"\n");
+    show::text(b"\n");
 }
 
 // A packet's size, and its piece count.
 fn show_count(format: Format, size: usize) {
     show_format(format);
-    show_text(b" ");
-    show_number(size);
-    show_text(b" bytes:");
+    show::text(b" ");
+    show::number(size);
+    show::text(b" bytes:");
     match packet::piece_count(format, size) {
         Outcome::Value(count) => {
-            show_text(b" pieces ");
-            show_number(count);
+            show::text(b" pieces ");
+            show::number(count);
         }
-        Outcome::Refused(name) => show_field(b"refused", name.number()),
+        Outcome::Refused(name) => show::field(b"refused", name.number()),
     }
-    show_text(b"\n");
+    show::text(b"\n");
 }
 
 // Piece k of a packet, and the whole output afterwards.
 fn show_piece(fields: Fields, packet: &[u8], k: usize, output: &mut [u8]) {
-    show_text(b"piece ");
-    show_number(k);
-    show_text(b" of ");
-    show_number(packet.len());
-    show_text(b":");
+    show::text(b"piece ");
+    show::number(k);
+    show::text(b" of ");
+    show::number(packet.len());
+    show::text(b":");
     match packet::write_piece(fields, packet, k, output) {
         Outcome::Value(n) => {
-            show_text(b" length ");
-            show_number(n);
+            show::text(b" length ");
+            show::number(n);
         }
-        Outcome::Refused(name) => show_field(b"refused", name.number()),
+        Outcome::Refused(name) => show::field(b"refused", name.number()),
     }
-    show_text(b" output");
-    show_hex(output);
-    show_text(b"\n");
+    show::text(b" output");
+    show::hex(output);
+    show::text(b"\n");
 }
 
 // The examples of extended images.
@@ -363,20 +332,11 @@ fn long_packets(fields: Fields, packet: &[u8], longest: usize) {
     }
 }
 
-// Bytes of which no two pieces are alike, in either format.
-fn fill(packet: &mut [u8]) {
-    let mut i = 0;
-    while i < packet.len() {
-        packet[i] = ((i % 256 + i / 256) % 256) as u8;
-        i += 1;
-    }
-}
-
 fn show_refusal(name: &[u8], refusal: Refusal) {
-    show_text(name);
-    show_text(b" ");
-    show_number(refusal.number() as usize);
-    show_text(b"\n");
+    show::text(name);
+    show::text(b" ");
+    show::number(refusal.number() as usize);
+    show::text(b"\n");
 }
 
 // The refusals' names and numbers.
@@ -421,7 +381,7 @@ fn main() {
     first_numbers();
     last_numbers();
     let mut packet = [0u8; 2049];
-    fill(&mut packet);
+    show::sample(&mut packet);
     let fields = extended_fields(3, 63, 3, 63, 31);
     long_packets(fields, &packet, 2048);
     let answering = standard_fields(2, 22, 1);

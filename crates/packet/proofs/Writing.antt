@@ -1,24 +1,39 @@
 -- Bytes written one after the other.
 use Prim.Native.Nat.{ℕ, _+_, _≤_}
 use mathlib.Core.Path.{_≡_, sym, ap, _∙_}
-use mathlib.Core.List.{List, _++_}
+use mathlib.Core.List.{List, _++_, append-assoc}
 use native.Mathlib.Nat.{zero-add}
+use native.Mathlib.Omega.{arith}
 use lib.ListN.{length, take, drop, length-append}
-use lib.Seq.{paste, take-length, length-take-le, take-at, drop-append-add, drop-drop}
+use lib.Seq.{length-take-le, take-at, drop-append-add, drop-drop}
+use Rattle.bytes.specs.Copy.{written, copied}
+use Rattle.bytes.proofs.Copying.{all-copied, written-length}
 use Rattle.packet.specs.Send.{over}
 
--- the first m of a list pasted at the start
-at-start : (head output : List ℕ) (m : ℕ) → m ≤ length head → paste output 0 head m ≡ over (take m head) output
-at-start head output m h = rw (zero-add, length-take-le m head h)
+-- at the start
+at-start : (x output : List ℕ) → written output 0 x ≡ over x output
+unfolding written
+at-start x output = rw zero-add
 
 -- and then more after it
-after-head : (x bytes output : List ℕ)
-    → take (length x) (over x output) ++ bytes ++ drop (length x + length bytes) (over x output) ≡ over (x ++ bytes) output
-after-head x bytes output = rw (take-at x (drop (length x) output) (length x), drop-append-add, drop-drop, length-append)
+after-head : (x bytes output : List ℕ) → written (over x output) (length x) bytes ≡ over (x ++ bytes) output
+unfolding written
+after-head x bytes output = rw (take-at x (drop (length x) output) (length x), drop-append-add, drop-drop, length-append, append-assoc)
 
-pub then : (head bytes output : List ℕ) (m : ℕ) → m ≤ length head
-    → paste (paste output 0 head m) m bytes (length bytes) ≡ over (take m head ++ bytes) output
-then head bytes output m h =
-    rw (at-start head output m h, take-length)
-    (ap (λ (k : ℕ). take k (over (take m head) output) ++ bytes ++ drop (k + length bytes) (over (take m head) output)) (sym (length-take-le m head h))
-    ∙ after-head (take m head) bytes output)
+module _ (x bytes output : List ℕ) (room : length x + length bytes ≤ length output) where
+  first : copied output 0 x ≡ over x output
+  first = all-copied output 0 x (omega arith) ∙ at-start x output
+
+  long : length (over x output) ≡ length output
+  long = ap length (sym (at-start x output)) ∙ written-length output 0 x (omega arith)
+
+  both : copied (copied output 0 x) (length x) bytes ≡ over (x ++ bytes) output
+  both =
+      let l = long in
+      rw first (all-copied (over x output) (length x) bytes (omega arith) ∙ after-head x bytes output)
+
+pub then : (head bytes output : List ℕ) (m : ℕ) → m ≤ length head → m + length bytes ≤ length output
+    → copied (copied output 0 (take m head)) m bytes ≡ over (take m head ++ bytes) output
+then head bytes output m h room =
+    let n = length-take-le m head h in
+    ap (λ (k : ℕ). copied (copied output 0 (take m head)) k bytes) (sym n) ∙ both (take m head) bytes output (omega arith)

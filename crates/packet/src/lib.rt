@@ -9,7 +9,6 @@ ghost use mathlib.Core.Bool.{true};
 ghost use mathlib.Core.List.{_++_};
 ghost use Prim.Native.Nat.{_+_, _%_, _≤_, _<_};
 ghost use lib.ListN.{length, take};
-ghost use lib.Seq.{paste};
 ghost use Rattle.format.specs.Formats.{numberRange, formatOf, inRange};
 ghost use Rattle.format.specs.Refusals.{meaning};
 ghost use Rattle.frame.specs.Image.{header};
@@ -81,25 +80,13 @@ fn bytes_at(z: usize, packet: &[u8], k: usize) -> &[u8]
     &packet[from..to]
 }
 
-// Writes the first n of bytes over the output from at on.
-fn copy_in(output: &mut [u8], at: usize, bytes: &[u8], n: usize)
-    requires { ⌜ (n ≤ length (now bytes)) × (at + n ≤ length (now output)) ⌝ }
-    ensures { λ _. ⌜ now (output .exit) ≡ paste (now (output .entry)) at (now (bytes .entry)) n ⌝ }
-{
-    let mut j = 0;
-    while j < n {
-        output[at + j] = bytes[j];
-        j += 1;
-    }
-}
-
 // Writes the first m of head and then bytes over the output from its start.
 fn put(head: &[u8], m: usize, bytes: &[u8], output: &mut [u8])
     requires { ⌜ (m ≤ length (now head)) × (m + length (now bytes) ≤ length (now output)) ⌝ }
     ensures { λ _. ⌜ now (output .exit) ≡ over (take m (now (head .entry)) ++ now (bytes .entry)) (now (output .entry)) ⌝ }
 {
-    copy_in(output, 0, head, m);
-    copy_in(output, m, bytes, bytes.len());
+    bytes::copy_in(output, 0, &head[..m]);
+    bytes::copy_in(output, m, bytes);
 }
 
 // The header, after it the number for the pieces that have it among their data bytes, and zeros.

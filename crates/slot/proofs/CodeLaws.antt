@@ -1,5 +1,5 @@
 -- For sound slots the codes tell what the keys tell.
-use Prim.Native.Nat.{ℕ, zero, suc, _+_, _*_, _<_, _≤_}
+use Prim.Native.Nat.{ℕ, zero, suc, _+_, _<_, _≤_}
 use native.Mathlib.Omega.{arith}
 use mathlib.Core.Path.{_≡_, refl, _∙_, sym, ap}
 use mathlib.Core.Bool.{Bool, true, false, cond, _&&_, _||_, not}
@@ -20,7 +20,7 @@ use Rattle.slot.specs.declared.Occupancy.the-variants.{Closed, Open}
 use Rattle.slot.specs.declared.Sought.the-variants.{Unsound, At}
 use Rattle.slot.specs.Slots.{sameFields, sameKey, openWith, hasKey, place}
 use Rattle.slot.specs.Sound.{keyInRange, slotSound, slotsSound, any, repeatedIn, keysDiffer, sound, sought}
-use Rattle.slot.specs.Codes.{fieldsCode, keyCode, slotCode, codesFrom, is, clashing}
+use Rattle.slot.specs.Codes.{codeOf, keyCode, slotCode, codesFrom, is, clashing}
 use Rattle.slot.proofs.Keys.{same-key}
 use Rattle.slot.proofs.SoundLaws.{range-of, head-sound, rest-sound, out-of-range}
 
@@ -72,7 +72,7 @@ in-range format key e =
     record { bus = leb-true (key .bus) 1 (t .0); fields = bounds (key .fields) (t .1 .1 .0) }
 
 -- a code in range is small
-small-fields : (a : Fields) (m : ℕ) → Bounds a → m ≤ 1 → fieldsCode a + m * 128 < 1073741824
+small-fields : (a : Fields) (m : ℕ) → Bounds a → m ≤ 1 → codeOf m a < 1073741824
 unfolding Bounds
 small-fields (Extended p s g d f) m r h = omega (arith, r .p3, r .s63, r .g3, r .d63, r .f31)
 small-fields (Standard p a s) m r h = omega (arith, r .p3, r .a63, r .s1)
@@ -81,7 +81,7 @@ pub small : (format : Format) (key : Key) → keyInRange format key ≡ true →
 small format key e = let r = in-range format key e in small-fields (key .fields) (key .bus) (r .fields) (r .bus)
 
 -- equal codes in range: equal fields
-told : (a b : Fields) (m n : ℕ) → Bounds a → Bounds b → m ≤ 1 → n ≤ 1 → fieldsCode a + m * 128 ≡ fieldsCode b + n * 128
+told : (a b : Fields) (m n : ℕ) → Bounds a → Bounds b → m ≤ 1 → n ≤ 1 → codeOf m a ≡ codeOf n b
     → all (eqb m n ∷ sameFields a b ∷ []) ≡ true
 unfolding Bounds sameFields
 told (Extended p s g d f) (Extended p′ s′ g′ d′ f′) m n r r′ h h′ q =
@@ -119,7 +119,7 @@ key-code format a b e e′ =
 -- a sound slot's code is a key's exactly where the slot is open with it
 slot-code : (format : Format) (o : Occupancy) (i : ℕ) (key : Key) → slotSound format o ≡ true → keyInRange format key ≡ true
     → eqb (slotCode o i) (keyCode key) ≡ openWith key o
-slot-code format Closed i key e r = let h = small format key r in ne-eqb (1073741824 + i) (keyCode key) (λ z. omega (arith, h))
+slot-code format Closed i key e r = let h = small format key r in ne-eqb (slotCode Closed i) (keyCode key) (λ z. omega (arith, h))
 slot-code format (Open stream) i key e r = key-code format (stream .key) key (range-of format stream e) r
 
 pub slot-fits : (format : Format) (o : Occupancy) (i : ℕ) → i < 16 → slotSound format o ≡ true → slotCode o i < 4294967296
@@ -138,17 +138,17 @@ any-open format key (slot ∷ slots) i r e =
     (slot-code format (slot .occupancy) i key (head-sound format slot slots e) r)
     (any-open format key slots (i + 1) r (rest-sound format slot slots e))
 
-closed-apart : (format : Format) (o : Occupancy) (i j : ℕ) → i < j → slotSound format o ≡ true → eqb (slotCode o j) (1073741824 + i) ≡ false
-closed-apart format Closed i j h e = ne-eqb (1073741824 + j) (1073741824 + i) (λ z. omega arith)
+closed-apart : (format : Format) (o : Occupancy) (i j : ℕ) → i < j → slotSound format o ≡ true → eqb (slotCode o j) (slotCode Closed i) ≡ false
+closed-apart format Closed i j h e = ne-eqb (slotCode Closed j) (slotCode Closed i) (λ z. omega arith)
 closed-apart format (Open stream) i j h e =
     let g = small format (stream .key) (range-of format stream e) in
-    ne-eqb (keyCode (stream .key)) (1073741824 + i) (λ z. omega (arith, g))
+    ne-eqb (keyCode (stream .key)) (slotCode Closed i) (λ z. omega (arith, g))
 
-any-closed : (format : Format) (slots : List Slot) (i j : ℕ) → i < j → slotsSound format slots ≡ true → any (is (1073741824 + i)) (codesFrom slots j) ≡ false
+any-closed : (format : Format) (slots : List Slot) (i j : ℕ) → i < j → slotsSound format slots ≡ true → any (is (slotCode Closed i)) (codesFrom slots j) ≡ false
 unfolding any
 any-closed format [] i j h e = refl
 any-closed format (slot ∷ slots) i j h e =
-    or-both (is (1073741824 + i) (slotCode (slot .occupancy) j)) (any (is (1073741824 + i)) (codesFrom slots (j + 1))) false false
+    or-both (is (slotCode Closed i) (slotCode (slot .occupancy) j)) (any (is (slotCode Closed i)) (codesFrom slots (j + 1))) false false
     (closed-apart format (slot .occupancy) i j h (head-sound format slot slots e))
     (any-closed format slots i (j + 1) (omega arith) (rest-sound format slot slots e))
 

@@ -13,12 +13,12 @@ use Rattle.slot.specs.declared.Occupancy.the-variants.{Closed, Open}
 use Rattle.slot.specs.declared.Slot.{Slot}
 use Rattle.slot.specs.Sound.{any}
 
-abbrev pub fieldsCode : Fields → ℕ
-fieldsCode (Extended p s g d f) = p + s * 256 + g * 65536 + d * 16777216 + f * 4
-fieldsCode (Standard p a s) = p + a * 256 + s * 65536 + 16384
+abbrev pub codeOf : ℕ → Fields → ℕ
+codeOf bus (Extended p s g d f) = p + s * 256 + g * 65536 + d * 16777216 + f * 4 + bus * 128
+codeOf bus (Standard p a s) = p + a * 256 + s * 65536 + 16384 + bus * 128
 
 abbrev pub keyCode : Key → ℕ
-keyCode key = fieldsCode (key .fields) + key .bus * 128
+keyCode key = codeOf (key .bus) (key .fields)
 
 abbrev pub slotCode : Occupancy → ℕ → ℕ
 slotCode Closed i = 1073741824 + i

@@ -9,9 +9,7 @@ use Rattle.format.specs.declared.Fields.{Fields}
 use Rattle.format.specs.declared.Fields.the-variants.{Extended, Standard}
 use Rattle.format.specs.Tests.{all}
 use Rattle.stream.specs.declared.Progress.{Progress}
-use Rattle.stream.specs.declared.Progress.the-variants.{Idle}
 use Rattle.slot.specs.declared.Key.{Key}
-use Rattle.slot.specs.declared.Stream.{Stream}
 use Rattle.slot.specs.declared.Occupancy.{Occupancy}
 use Rattle.slot.specs.declared.Occupancy.the-variants.{Closed, Open}
 use Rattle.slot.specs.declared.Slot.{Slot}

@@ -13,13 +13,12 @@ use Rattle.format.specs.Formats.{pieceSize, packetLimit, formatOf, inRange}
 use Rattle.stream.specs.declared.Progress.{Progress}
 use Rattle.stream.specs.declared.Progress.the-variants.{Idle, Collecting, Done}
 use Rattle.slot.specs.declared.Key.{Key}
-use Rattle.slot.specs.declared.Stream.{Stream}
 use Rattle.slot.specs.declared.Occupancy.{Occupancy}
 use Rattle.slot.specs.declared.Occupancy.the-variants.{Closed, Open}
 use Rattle.slot.specs.declared.Slot.{Slot}
 use Rattle.slot.specs.declared.Sought.{Sought}
 use Rattle.slot.specs.declared.Sought.the-variants.{Unsound, At}
-use Rattle.slot.specs.Slots.{openWith, hasKey, place}
+use Rattle.slot.specs.Slots.{hasKey, place}
 
 abbrev pub sameFormat : Format → Format → Bool
 sameFormat Extended Extended = true

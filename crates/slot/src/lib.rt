@@ -61,8 +61,8 @@ pub fn key_in_range(format: Format, key: Key) -> bool
     (key.bus <= 1) & same_format(format, fields.format()) & fields.in_range()
 }
 
-// Whether so many bytes can be held. Collecting, a standard stream has 255 pieces at most, 1,785
-// bytes; an extended one may have all 256, as an end can be empty.
+// Whether so many bytes can be held. A standard piece of number 255 is an end, so that no more
+// than 255 pieces, 1,785 bytes, are held while collecting.
 fn fits(format: Format, progress: Progress) -> bool
     ensures { λ r. ⌜ r ≡ fits format progress ⌝ }
 {
@@ -211,12 +211,12 @@ fn find_code(codes: &[u32; 16], code: u32) -> usize
     requires { ⌜ length (now codes) ≡ 16 ⌝ }
     ensures { λ r. ⌜ r ≡ place (is code) (now (codes .entry)) ⌝ }
 {
-    let mut at: usize = 0;
-    while at < 16 {
-        if codes[at] == code {
-            return at;
+    let mut i: usize = 0;
+    while i < 16 {
+        if codes[i] == code {
+            return i;
         }
-        at += 1;
+        i += 1;
     }
     16
 }
@@ -234,14 +234,14 @@ fn is_closed(occupancy: Occupancy) -> bool
 pub fn first_closed(slots: [Slot; 16]) -> usize
     ensures { λ r. ⌜ r ≡ place isClosed slots ⌝ }
 {
-    let mut i: usize = 0;
-    while i < 16 {
-        let slot = slots[i];
+    let mut at: usize = 0;
+    while at < 16 {
+        let slot = slots[at];
         let occupancy = slot.occupancy;
         if is_closed(occupancy) {
-            return i;
+            return at;
         }
-        i += 1;
+        at += 1;
     }
     16
 }

@@ -29,11 +29,13 @@ module _ (z m : ℕ) (last : Bool) (h : ℕ) (area : List ℕ) (n : ℕ) (bytes 
   unfolding appended
   out-of-step r er ne = rw (er, ← e, ne-eqb n (held / z % m) ne)
 
-  pub too-long : (r : Stepped) → r ≡ record { answer = Refused Long; progress = Idle } → n ≡ held / z % m → 2048 < held + length bytes → Appended r area
+  pub too-long : (r : Stepped) → r ≡ record { answer = Refused Long; progress = Idle }
+      → n ≡ held / z % m → 2048 < held + length bytes → Appended r area
   unfolding appended
   too-long r er en l = rw (er, ← e, eq-eqb n (held / z % m) en, lt-leb (held + length bytes) 2048 l)
 
-  module _ (en : n ≡ held / z % m) (l : held + length bytes ≤ 2048) (end : ℕ) (ee : end ≡ held + length bytes) (next : List ℕ) (w : next ≡ written area held bytes) where
+  module _ (en : n ≡ held / z % m) (l : held + length bytes ≤ 2048)
+      (end : ℕ) (ee : end ≡ held + length bytes) (next : List ℕ) (w : next ≡ written area held bytes) where
     pub ended : last ≡ true → Appended (record { answer = Packet (held + length bytes) false; progress = Done end }) next
     unfolding appended
     ended b = rw (← e, eq-eqb n (held / z % m) en, le-leb (held + length bytes) 2048 l, b, ee, w)
@@ -44,7 +46,8 @@ module _ (z m : ℕ) (last : Bool) (h : ℕ) (area : List ℕ) (n : ℕ) (bytes 
 
 -- a middle or end
 module _ (z m : ℕ) (last : Bool) (progress : Progress) (area : List ℕ) (n : ℕ) (bytes : List ℕ) where
-  pub idle : (r : Stepped) → r ≡ record { answer = Refused Orphan; progress = progress } → progress ≡ Idle → after r area ≡ followed z m last progress area n bytes
+  pub idle : (r : Stepped) → r ≡ record { answer = Refused Orphan; progress = progress } → progress ≡ Idle
+      → after r area ≡ followed z m last progress area n bytes
   unfolding followed
   idle r er e = rw (er, e)
 
@@ -68,12 +71,15 @@ module _ (z m : ℕ) (progress : Progress) (area : List ℕ) (flag : Flag) (n : 
   unfolding stepped
   as-end f next d = rw f d
 
-  module _ (broke : Bool) (b : broke ≡ collecting progress) (h : ℕ) (e : h ≡ 0 + length bytes) (next : List ℕ) (w : next ≡ written area 0 bytes) where
-    pub as-start : flag ≡ Start → after (record { answer = Kept broke; progress = Collecting h }) next ≡ stepped z m progress area flag n bytes
+  module _ (broke : Bool) (b : broke ≡ collecting progress)
+      (h : ℕ) (e : h ≡ 0 + length bytes) (next : List ℕ) (w : next ≡ written area 0 bytes) where
+    pub as-start : flag ≡ Start
+        → after (record { answer = Kept broke; progress = Collecting h }) next ≡ stepped z m progress area flag n bytes
     unfolding stepped
     as-start f = rw (f, b, e, zero-add, w)
 
-    pub as-single : flag ≡ Single → after (record { answer = Packet (length bytes) broke; progress = Done h }) next ≡ stepped z m progress area flag n bytes
+    pub as-single : flag ≡ Single
+        → after (record { answer = Packet (length bytes) broke; progress = Done h }) next ≡ stepped z m progress area flag n bytes
     unfolding stepped
     as-single f = rw (f, b, e, zero-add, w)
 

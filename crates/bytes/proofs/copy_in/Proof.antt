@@ -12,7 +12,8 @@ use Rattle.bytes.proofs.copy_in.Statement.{statement}
 use Rattle.bytes.proofs.copy_in.Tie as tie
 
 abbrev Inv-loop : tie.InvT-loop
-Inv-loop target₀ at bytes n room j₀ target j = (j ≤ length bytes) × (target ≡ paste target₀ at bytes j) × (length target ≡ length target₀)
+Inv-loop target₀ at bytes n room j₀ target j =
+    (j ≤ length bytes) × (target ≡ paste target₀ at bytes j) × (length target ≡ length target₀)
 
 abbrev μ-loop : tie.MeasureT-loop
 μ-loop target₀ at bytes n room j₀ target j = length bytes - j

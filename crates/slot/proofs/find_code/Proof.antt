@@ -1,4 +1,4 @@
--- `slot::find_code` meets its contract: none of the codes before it is the one that is sought.
+-- `slot::find_code` meets its contract: none of the codes before i is the one that is sought.
 use Prim.Native.Nat.{_+_, _≤_, _-_}
 use mathlib.Core.Path.{_≡_, _∙_, sym}
 use native.Mathlib.Omega.{arith}
@@ -12,10 +12,10 @@ use Rattle.slot.proofs.find_code.Statement.{statement}
 use Rattle.slot.proofs.find_code.Tie as tie
 
 abbrev Inv-loop : tie.InvT-loop
-Inv-loop codes code at₀ at = (at ≤ 16) × (place (is code) codes ≡ at + place (is code) (drop at codes))
+Inv-loop codes code i₀ i = (i ≤ 16) × (place (is code) codes ≡ i + place (is code) (drop i codes))
 
 abbrev μ-loop : tie.MeasureT-loop
-μ-loop codes code at₀ at = 16 - at
+μ-loop codes code i₀ i = 16 - i
 
 loop-holds : tie.Need-loop-holds Inv-loop μ-loop
 loop-holds c = (omega arith, omega arith)
@@ -30,10 +30,10 @@ returns : tie.Need-returns Inv-loop μ-loop
 returns c =
     let a = c .before .before .before in
     let g = a .before .args in
-    here (is (g .code)) (g .codes .now) (a .loop .at) 0 (omega arith) (a .loop .inv .1) (eq-eqb _ _ (c .if1 .taken))
+    here (is (g .code)) (g .codes .now) (a .loop .i) 0 (omega arith) (a .loop .inv .1) (eq-eqb _ _ (c .if1 .taken))
 
-add-at : tie.Need-add-at Inv-loop μ-loop
-add-at c = search needs
+add-i : tie.Need-add-i Inv-loop μ-loop
+add-i c = search needs
 
 loop-less : tie.Need-loop-less Inv-loop μ-loop
 loop-less c = search needs
@@ -42,14 +42,14 @@ loop-again : tie.Need-loop-again Inv-loop μ-loop
 loop-again c =
     let a = c .before .before .before in
     let g = a .before .args in
-    (search needs, on (is (g .code)) (g .codes .now) (a .loop .at) 0 (omega arith) (a .loop .inv .1) (ne-eqb _ _ (c .if1 .left)))
+    (search needs, on (is (g .code)) (g .codes .now) (a .loop .i) 0 (omega arith) (a .loop .inv .1) (ne-eqb _ _ (c .if1 .left)))
 
 returns-2 : tie.Need-returns-2 Inv-loop μ-loop
 returns-2 c =
     let a = c .before in
     let g = a .before .args in
-    let e : a .loop .at ≡ 16 = omega arith in
-    sym e ∙ out (is (g .code)) (g .codes .now) (a .loop .at) (omega arith) (a .loop .inv .1)
+    let e : a .loop .i ≡ 16 = omega arith in
+    sym e ∙ out (is (g .code)) (g .codes .now) (a .loop .i) (omega arith) (a .loop .inv .1)
 
 pub find-code-spec : {M : Type 1} → statement M
 find-code-spec =
@@ -61,7 +61,7 @@ find-code-spec =
     mul-if1
     element-copy-out-if1
     returns
-    add-at
+    add-i
     loop-less
     loop-again
     returns-2)

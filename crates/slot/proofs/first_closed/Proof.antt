@@ -1,4 +1,4 @@
--- `slot::first_closed` meets its contract: no slot before i is closed.
+-- `slot::first_closed` meets its contract: no slot that was passed is closed.
 use Prim.Native.Nat.{_+_, _≤_, _-_}
 use mathlib.Core.Path.{_≡_, _∙_, sym}
 use native.Mathlib.Omega.{arith}
@@ -10,10 +10,10 @@ use Rattle.slot.proofs.first_closed.Statement.{statement}
 use Rattle.slot.proofs.first_closed.Tie as tie
 
 abbrev Inv-loop : tie.InvT-loop
-Inv-loop slots i₀ i = (i ≤ 16) × (place isClosed slots ≡ i + place isClosed (drop i slots))
+Inv-loop slots at₀ at = (at ≤ 16) × (place isClosed slots ≡ at + place isClosed (drop at slots))
 
 abbrev μ-loop : tie.MeasureT-loop
-μ-loop slots i₀ i = 16 - i
+μ-loop slots at₀ at = 16 - at
 
 sixteen : (c : tie.Start Inv-loop μ-loop) → length (c .args .t1) ≡ 16
 sixteen c = c .good .0 .1 .0 .1
@@ -34,10 +34,10 @@ returns : tie.Need-returns Inv-loop μ-loop
 returns c =
     let a = c .before .before .before .before in
     let n = sixteen (a .before) in
-    here isClosed (a .before .args .t1) (a .loop .i) closedSlot (omega arith) (a .loop .inv .1) (sym (c .before .is-closed .ensures) ∙ c .if1 .taken)
+    here isClosed (a .before .args .t1) (a .loop .at) closedSlot (omega arith) (a .loop .inv .1) (sym (c .before .is-closed .ensures) ∙ c .if1 .taken)
 
-add-i : tie.Need-add-i Inv-loop μ-loop
-add-i c = search needs
+add-at : tie.Need-add-at Inv-loop μ-loop
+add-at c = search needs
 
 loop-less : tie.Need-loop-less Inv-loop μ-loop
 loop-less c = search needs
@@ -46,14 +46,14 @@ loop-again : tie.Need-loop-again Inv-loop μ-loop
 loop-again c =
     let a = c .before .before .before .before in
     let n = sixteen (a .before) in
-    (search needs, on isClosed (a .before .args .t1) (a .loop .i) closedSlot (omega arith) (a .loop .inv .1) (sym (c .before .is-closed .ensures) ∙ c .if1 .left))
+    (search needs, on isClosed (a .before .args .t1) (a .loop .at) closedSlot (omega arith) (a .loop .inv .1) (sym (c .before .is-closed .ensures) ∙ c .if1 .left))
 
 returns-2 : tie.Need-returns-2 Inv-loop μ-loop
 returns-2 c =
     let a = c .before in
     let n = sixteen (a .before) in
-    let e : a .loop .i ≡ 16 = omega arith in
-    sym e ∙ out isClosed (a .before .args .t1) (a .loop .i) (omega arith) (a .loop .inv .1)
+    let e : a .loop .at ≡ 16 = omega arith in
+    sym e ∙ out isClosed (a .before .args .t1) (a .loop .at) (omega arith) (a .loop .inv .1)
 
 pub first-closed-spec : {M : Type 1} → statement M
 first-closed-spec =
@@ -66,7 +66,7 @@ first-closed-spec =
     array-copy-out-slot
     is-closed-requires
     returns
-    add-i
+    add-at
     loop-less
     loop-again
     returns-2)

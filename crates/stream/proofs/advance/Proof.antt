@@ -50,7 +50,8 @@ returns-2 c =
     let t = d .before .before in
     let k = t .before .before in
     let a = k .before .before .before .args in
-    as-start (a .z) (a .m) (a .progress) (a .area .now) (a .flag) (a .number) (a .bytes .now) _ (k .collecting .ensures) _ (d .hold .ensures .0) _ (d .hold .ensures .1) (t .enum-told2 .given .1)
+    as-start (a .z) (a .m) (a .progress) (a .area .now) (a .flag) (a .number) (a .bytes .now)
+    _ (k .collecting .ensures) _ (d .hold .ensures .0) _ (d .hold .ensures .1) (t .enum-told2 .given .1)
 
 same-length-3 : tie.Need-same-length-3
 same-length-3 c = search needs
@@ -71,7 +72,8 @@ returns-4 c =
     let t = d .before .before in
     let k = t .before .before in
     let a = k .before .before .before .args in
-    as-single (a .z) (a .m) (a .progress) (a .area .now) (a .flag) (a .number) (a .bytes .now) _ (k .collecting .ensures) _ (d .hold2 .ensures .0) _ (d .hold2 .ensures .1) (t .enum-told4 .given .1)
+    as-single (a .z) (a .m) (a .progress) (a .area .now) (a .flag) (a .number) (a .bytes .now)
+    _ (k .collecting .ensures) _ (d .hold2 .ensures .0) _ (d .hold2 .ensures .1) (t .enum-told4 .given .1)
 
 pub advance-spec : {M : Type 1} → statement M
 advance-spec =

@@ -24,7 +24,8 @@ returns : tie.Need-returns
 returns c =
     let w = c .before .before in
     let a = w .before .before .before .args in
-    out-of-step (a .z) (a .m) (a .last) (a .h) (a .area .now) (a .number) (a .bytes .now) _ (w .wide .ensures) _ (c .refuse .ensures) (λ q. omega arith)
+    out-of-step (a .z) (a .m) (a .last) (a .h) (a .area .now) (a .number) (a .bytes .now)
+    _ (w .wide .ensures) _ (c .refuse .ensures) (λ q. omega arith)
 
 refuse-requires-2 : tie.Need-refuse-requires-2
 refuse-requires-2 c κs = search needs
@@ -33,7 +34,8 @@ returns-2 : tie.Need-returns-2
 returns-2 c =
     let w = c .before .before .before in
     let a = w .before .before .before .args in
-    too-long (a .z) (a .m) (a .last) (a .h) (a .area .now) (a .number) (a .bytes .now) _ (w .wide .ensures) _ (c .refuse2 .ensures) (omega arith) (omega arith)
+    too-long (a .z) (a .m) (a .last) (a .h) (a .area .now) (a .number) (a .bytes .now)
+    _ (w .wide .ensures) _ (c .refuse2 .ensures) (omega arith) (omega arith)
 
 hold-requires : tie.Need-hold-requires
 hold-requires c κs = search needs
@@ -46,7 +48,8 @@ returns-3 c =
     let d = c .before .before .before in
     let w = d .before .before .before .before in
     let a = w .before .before .before .args in
-    ended (a .z) (a .m) (a .last) (a .h) (a .area .now) (a .number) (a .bytes .now) _ (w .wide .ensures) (omega arith) (omega arith) _ (d .hold .ensures .0) _ (d .hold .ensures .1) (c .if3 .taken)
+    ended (a .z) (a .m) (a .last) (a .h) (a .area .now) (a .number) (a .bytes .now)
+    _ (w .wide .ensures) (omega arith) (omega arith) _ (d .hold .ensures .0) _ (d .hold .ensures .1) (c .if3 .taken)
 
 same-length-2 : tie.Need-same-length-2
 same-length-2 c = search needs
@@ -56,7 +59,8 @@ returns-4 c =
     let d = c .before .before .before in
     let w = d .before .before .before .before in
     let a = w .before .before .before .args in
-    went-on (a .z) (a .m) (a .last) (a .h) (a .area .now) (a .number) (a .bytes .now) _ (w .wide .ensures) (omega arith) (omega arith) _ (d .hold .ensures .0) _ (d .hold .ensures .1) (c .if3 .left)
+    went-on (a .z) (a .m) (a .last) (a .h) (a .area .now) (a .number) (a .bytes .now)
+    _ (w .wide .ensures) (omega arith) (omega arith) _ (d .hold .ensures .0) _ (d .hold .ensures .1) (c .if3 .left)
 
 pub append-spec : {M : Type 1} → statement M
 append-spec =

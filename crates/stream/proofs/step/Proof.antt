@@ -48,7 +48,8 @@ returns-3 c =
     let m = d .before .before in
     let z = m .before in
     let a = z .before .before .before .before .before .args in
-    taken (a .format) (a .progress) (a .area .now) (a .flag) (a .number) (a .bytes .now) (omega arith) (omega arith) _ _ (z .piece-size .ensures) (m .number-range .ensures) _ (d .advance .ensures)
+    taken (a .format) (a .progress) (a .area .now) (a .flag) (a .number) (a .bytes .now)
+    (omega arith) (omega arith) _ _ (z .piece-size .ensures) (m .number-range .ensures) _ (d .advance .ensures)
 
 pub step-spec : {M : Type 1} → statement M
 step-spec =

@@ -1,9 +1,9 @@
--- `examples::show_hex` meets its contract: the loop's invariant bounds the index.
+-- `show::hex` meets its contract: the loop's invariant bounds the index.
 use borrow.Author.Needs.{needs}
 use Prim.Native.Nat.{_-_, _≤_}
 use lib.ListN.{length}
-use Rattle.examples.proofs.show_hex.Statement.{statement}
-use Rattle.examples.proofs.show_hex.Tie as tie
+use Rattle.show.proofs.hex.Statement.{statement}
+use Rattle.show.proofs.hex.Tie as tie
 
 abbrev Inv-loop : tie.InvT-loop
 Inv-loop bytes i₀ i = i ≤ length bytes
@@ -14,11 +14,11 @@ abbrev μ-loop : tie.MeasureT-loop
 loop-holds : tie.Need-loop-holds Inv-loop μ-loop
 loop-holds c = search needs
 
-shared-slice-read-show-byte : tie.Need-shared-slice-read-show-byte Inv-loop μ-loop
-shared-slice-read-show-byte c = search needs
+shared-slice-read-byte : tie.Need-shared-slice-read-byte Inv-loop μ-loop
+shared-slice-read-byte c = search needs
 
-show-byte-requires : tie.Need-show-byte-requires Inv-loop μ-loop
-show-byte-requires c κs = search needs
+byte-requires : tie.Need-byte-requires Inv-loop μ-loop
+byte-requires c κs = search needs
 
 add-i : tie.Need-add-i Inv-loop μ-loop
 add-i c = search needs
@@ -32,15 +32,15 @@ loop-again c = search needs
 returns : tie.Need-returns Inv-loop μ-loop
 returns c = search needs
 
-pub show-hex-spec : {M : Type 1} → statement M
-show-hex-spec =
+pub hex-spec : {M : Type 1} → statement M
+hex-spec =
     tie.close
     (tie.spec
     Inv-loop
     μ-loop
     loop-holds
-    shared-slice-read-show-byte
-    show-byte-requires
+    shared-slice-read-byte
+    byte-requires
     add-i
     loop-less
     loop-again

@@ -1,28 +1,28 @@
--- `examples::fill` meets its contract: the loop's invariant keeps the length.
+-- `show::sample` meets its contract: the loop's invariant keeps the length.
 use borrow.Author.Needs.{needs}
 use Prim.Native.Nat.{_-_, _≤_}
 use mathlib.Core.Path.{_≡_}
 use lib.ListN.{length, length-set}
-use Rattle.examples.proofs.fill.Statement.{statement}
-use Rattle.examples.proofs.fill.Tie as tie
+use Rattle.show.proofs.sample.Statement.{statement}
+use Rattle.show.proofs.sample.Tie as tie
 
 abbrev Inv-loop : tie.InvT-loop
-Inv-loop packet₀ i₀ packet i = (i ≤ length packet₀) × (length packet ≡ length packet₀)
+Inv-loop bytes₀ i₀ bytes i = (i ≤ length bytes₀) × (length bytes ≡ length bytes₀)
 
 abbrev μ-loop : tie.MeasureT-loop
-μ-loop packet₀ i₀ packet i = length packet₀ - i
+μ-loop bytes₀ i₀ bytes i = length bytes₀ - i
 
 loop-holds : tie.Need-loop-holds Inv-loop μ-loop
 loop-holds c = search needs
 
-add-packet : tie.Need-add-packet Inv-loop μ-loop
-add-packet c = search needs
+add-bytes : tie.Need-add-bytes Inv-loop μ-loop
+add-bytes c = search needs
 
-cast-packet : tie.Need-cast-packet Inv-loop μ-loop
-cast-packet c = search needs
+cast-bytes : tie.Need-cast-bytes Inv-loop μ-loop
+cast-bytes c = search needs
 
-slice-write-packet : tie.Need-slice-write-packet Inv-loop μ-loop
-slice-write-packet c = search needs
+slice-write-bytes : tie.Need-slice-write-bytes Inv-loop μ-loop
+slice-write-bytes c = search needs
 
 add-i : tie.Need-add-i Inv-loop μ-loop
 add-i c = search needs
@@ -39,16 +39,16 @@ same-length c = search needs
 returns : tie.Need-returns Inv-loop μ-loop
 returns c = search needs
 
-pub fill-spec : {M : Type 1} → statement M
-fill-spec =
+pub sample-spec : {M : Type 1} → statement M
+sample-spec =
     tie.close
     (tie.spec
     Inv-loop
     μ-loop
     loop-holds
-    add-packet
-    cast-packet
-    slice-write-packet
+    add-bytes
+    cast-bytes
+    slice-write-bytes
     add-i
     loop-less
     loop-again
