@@ -18,17 +18,9 @@ use Rattle.slot.specs.declared.Occupancy.the-variants.{Closed, Open}
 use Rattle.slot.specs.Slots.{closedSlot, slotAt, sameKey, openWith, hasKey, place}
 use Rattle.slot.specs.Sound.{slotSound, slotsSound, any, repeatedIn, keysDiffer}
 use Rattle.slot.proofs.Keys.{same-key}
+use Rattle.slot.proofs.Places.{place-none}
 
 -- ---- where a test holds
-
-pub nowhere : {A : Type 0} (test : A → Bool) (xs : List A) → any test xs ≡ false → place test xs ≡ length xs
-unfolding any place
-nowhere test [] e = refl
-nowhere test (x ∷ xs) e = go (test x) e (λ h. nowhere test xs h)
-  where
-    go : (b : Bool) → (b || any test xs) ≡ false → (any test xs ≡ false → place test xs ≡ length xs) → cond b 0 (suc (place test xs)) ≡ suc (length xs)
-    go true e rest = let z : _≡_ {A = ℕ} 0 1 = cc in absurd (omega arith)
-    go false e rest = ap suc (rest e)
 
 pub none-holds : {A : Type 0} (test : A → Bool) (xs : List A) (d : A) → ((j : ℕ) → j < length xs → test (getD xs j d) ≡ false) → any test xs ≡ false
 unfolding any
@@ -64,7 +56,7 @@ past : (o : Occupancy) (slots : List Slot) (key : Key) (i : ℕ) → not (repeat
     → hasKey key (slotAt slots i) ≡ eqb (cond (openWith key o) 0 (suc (place (hasKey key) slots))) (suc i)
 past Closed slots key i lone h ih = ih ∙ sym (eqb·suc-suc (place (hasKey key) slots) i)
 past (Open stream) slots key i lone h ih =
-    let absent = nowhere (hasKey (stream .key)) slots (not-true _ lone) in
+    let absent = place-none (hasKey (stream .key)) slots (not-true _ lone) in
     let away : eqb (length slots) i ≡ false = ne-eqb (length slots) i (λ e. omega arith) in
     later (sameKey (stream .key) key) (hasKey key (slotAt slots i)) (place (hasKey key) slots) i ih
     (λ e. ih ∙ ap (λ (n : ℕ). eqb n i) (ap (λ (k : Key). place (hasKey k) slots) (sym (same-key (stream .key) key e)) ∙ absent) ∙ away)

@@ -6,10 +6,9 @@ use mathlib.Core.Bool.{Bool, true, false, cond}
 use mathlib.Core.List.{List}
 use native.Mathlib.Omega.{arith}
 use lib.Dec.{leb, eqb}
-use lib.ListN.{length, drop, length-append, length-drop}
-use lib.Seq.{length-take-le}
+use lib.ListN.{length, drop, length-drop}
 use borrow.Author.Tests.{leb-true, eqb-true, le-leb}
-use Rattle.bytes.specs.Copy.{written}
+use Rattle.bytes.proofs.Copying.{written-length}
 use Rattle.format.specs.declared.Format.{Format}
 use Rattle.format.specs.declared.Format.the-variants.{Extended, Standard}
 use Rattle.format.specs.declared.Flag.{Flag}
@@ -93,12 +92,6 @@ judged-start format image judged e =
     let t = each _ (p .0 .1 .1 .1 .0) in
     let n = start-near format (said .flag) (said .count) (said .number) (length image) (p .0 .1 .1 .1 .1 .0) (eqb-true _ _ (t .1 .0)) in
     rw (sym (p .1), start-is format image) n
-
--- ---- writing keeps the size
-
-pub written-length : (area : List ℕ) (h : ℕ) (bytes : List ℕ) → h + length bytes ≤ length area → length (written area h bytes) ≡ length area
-unfolding written
-written-length area h bytes l = simp (length-append, length-drop, length-take-le h area (omega arith)) (omega arith)
 
 -- ---- a step keeps both
 

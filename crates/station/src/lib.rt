@@ -307,7 +307,8 @@ impl Station {
         if !sound(format, slots) {
             return Outcome::Refused(Refusal::State);
         }
-        if store.len() != 32768 {
+        let lent = store.len();
+        if lent != 32768 {
             return Outcome::Refused(Refusal::Store);
         }
         if !open_at(slots, i) {
@@ -318,7 +319,10 @@ impl Station {
         match progress_in(occupancy) {
             Progress::Idle => Outcome::Refused(Refusal::NoPacket),
             Progress::Collecting(_) => Outcome::Refused(Refusal::NoPacket),
-            Progress::Done(h) => Outcome::Value(h as usize),
+            Progress::Done(h) => {
+                let length = h as usize;
+                Outcome::Value(length)
+            }
         }
     }
 

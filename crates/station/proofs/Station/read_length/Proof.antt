@@ -61,8 +61,8 @@ enum-told-2 c = search needs
 enum-known-h : tie.Need-enum-known-h
 enum-known-h c = search needs
 
-cast-t23 : tie.Need-cast-t23
-cast-t23 c = search needs
+cast-length : tie.Need-cast-length
+cast-length c = search needs
 
 returns-4 : tie.Need-returns-4
 returns-4 c =
@@ -101,7 +101,7 @@ read-length-spec =
     enum-told
     enum-told-2
     enum-known-h
-    cast-t23
+    cast-length
     returns-4
     returns-5
     returns-6)
