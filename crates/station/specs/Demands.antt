@@ -1,5 +1,6 @@
--- What is promised of whole runs. Open this file first: the definitions that it speaks of are those that the calls' contracts
--- cite. proofs/Demands.antt has the proofs.
+-- What is promised of a station and of whole runs. Open this file first: the definitions that it speaks of are those that the
+-- calls' contracts cite. Proofs: proofs/Isolation.antt (`Demand3`), proofs/RoundTrip.antt (`RoundTrip`), proofs/Soundness.antt (the
+-- others).
 use Prim.Native.Nat.{ℕ, _+_, _-_, _≤_, _<_}
 use mathlib.Core.Path.{_≡_}
 use mathlib.Core.Logic.{_≢_}
