@@ -6,8 +6,8 @@ use native.Mathlib.Nat.{zero-add}
 use native.Mathlib.Omega.{arith}
 use lib.ListN.{length, take, drop, length-append}
 use lib.Seq.{length-take-le, take-at, drop-append-add, drop-drop}
-use Rattle.bytes.specs.Copy.{written, copied}
-use Rattle.bytes.proofs.Copying.{all-copied, written-length}
+use Rattle.copying.specs.Copy.{written, copied}
+use Rattle.copying.proofs.Copying.{all-copied, written-length}
 use Rattle.packet.specs.Send.{over}
 
 -- at the start

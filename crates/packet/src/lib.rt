@@ -85,8 +85,8 @@ fn put(head: &[u8], m: usize, bytes: &[u8], output: &mut [u8])
     requires { ⌜ (m ≤ length (now head)) × (m + length (now bytes) ≤ length (now output)) ⌝ }
     ensures { λ _. ⌜ now (output .exit) ≡ over (take m (now (head .entry)) ++ now (bytes .entry)) (now (output .entry)) ⌝ }
 {
-    bytes::copy_in(output, 0, &head[..m]);
-    bytes::copy_in(output, m, bytes);
+    copying::copy_in(output, 0, &head[..m]);
+    copying::copy_in(output, m, bytes);
 }
 
 // The header, after it the number for the pieces that have it among their data bytes, and zeros.

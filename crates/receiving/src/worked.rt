@@ -5,7 +5,11 @@ use crate::keys::extended;
 use crate::keys::standard;
 use format::Format;
 use slot::Key;
+use slot::Occupancy;
+use slot::Slot;
+use slot::Stream;
 use station::Station;
+use stream::Progress;
 
 // Receives an image, and shows what is answered.
 fn hear(station: Station, store: &mut [u8], bus: u8, image: &[u8]) -> Station {
@@ -135,6 +139,77 @@ fn refused() {
     read(s, &store, 0);
 }
 
+fn open_slot(key: Key, progress: Progress) -> Slot {
+    let stream = Stream {
+        key: key,
+        progress: progress,
+    };
+    Slot {
+        occupancy: Occupancy::Open(stream),
+    }
+}
+
+// A single received by a station that is handed in with one open slot.
+fn held(format: Format, key: Key, progress: Progress, image: &[u8]) {
+    let mut store = [0u8; 32768];
+    let s = Station::new(format);
+    let mut slots = s.slots;
+    let slot = open_slot(key, progress);
+    slots[0] = slot;
+    let s = Station {
+        format: format,
+        slots: slots,
+    };
+    let _ = hear(s, &mut store, 0, image);
+}
+
+fn held_extended(key: Key, progress: Progress) {
+    held(Format::Extended, key, progress, b"\x81\x06\x00\xC0\x10\x39");
+}
+
+fn held_standard(progress: Progress) {
+    let key = standard(0, 2, 22, 1);
+    held(Format::Standard, key, progress, b"\x96\xE3\x01\x02\x03");
+}
+
+// The same key open twice.
+fn held_twice(key: Key) {
+    let mut store = [0u8; 32768];
+    let s = Station::new(Format::Extended);
+    let mut slots = s.slots;
+    let slot = open_slot(key, Progress::Idle);
+    slots[0] = slot;
+    let slot = open_slot(key, Progress::Done(0));
+    slots[15] = slot;
+    let s = Station {
+        format: Format::Extended,
+        slots: slots,
+    };
+    let _ = hear(s, &mut store, 0, b"\x81\x06\x00\xC0\x10\x39");
+}
+
+// Stations at the edges of soundness, and beyond.
+fn states() {
+    let key = extended(0, 0, 6, 2);
+    held_extended(key, Progress::Collecting(0));
+    held_extended(key, Progress::Collecting(8));
+    held_extended(key, Progress::Collecting(9));
+    held_extended(key, Progress::Collecting(2048));
+    held_extended(key, Progress::Collecting(2056));
+    held_extended(key, Progress::Done(0));
+    held_extended(key, Progress::Done(2048));
+    held_extended(key, Progress::Done(2049));
+    held_extended(extended(2, 0, 6, 2), Progress::Idle);
+    held_extended(extended(0, 4, 6, 2), Progress::Idle);
+    held_standard(Progress::Collecting(7));
+    held_standard(Progress::Collecting(8));
+    held_standard(Progress::Collecting(1785));
+    held_standard(Progress::Collecting(1792));
+    held_standard(Progress::Done(1792));
+    held_standard(Progress::Done(1793));
+    held_twice(key);
+}
+
 // Opens keys of sixteen sources, the last of which fills the station.
 fn open_all(station: Station) -> Station {
     let mut s = station;
@@ -212,6 +287,7 @@ pub fn every_rule() {
     dropped();
     others();
     refused();
+    states();
     slots();
     let mut packet = [0u8; 2048];
     show::sample(&mut packet);

@@ -13,11 +13,13 @@ use Rattle.format.specs.declared.Fields.the-variants.{Extended, Standard}
 use Rattle.format.specs.Tests.{all}
 use Rattle.format.specs.Formats.{inRange}
 use Rattle.format.proofs.Tests.{each, from-each}
+use Rattle.format.specs.declared.Refusal.the-variants.{State}
+use Rattle.format.specs.Refusals.{value, refused, number}
+use Rattle.format.proofs.Checks.{stop, pass, none-left}
 use Rattle.slot.specs.declared.Key.{Key}
 use Rattle.slot.specs.declared.Slot.{Slot}
 use Rattle.slot.specs.declared.Occupancy.{Occupancy}
 use Rattle.slot.specs.declared.Occupancy.the-variants.{Closed, Open}
-use Rattle.slot.specs.declared.Sought.the-variants.{Unsound, At}
 use Rattle.slot.specs.Slots.{sameFields, sameKey, openWith, hasKey, place}
 use Rattle.slot.specs.Sound.{keyInRange, slotSound, slotsSound, any, repeatedIn, keysDiffer, sound, sought}
 use Rattle.slot.specs.Codes.{codeOf, keyCode, slotCode, codesFrom, is, clashing}
@@ -208,16 +210,16 @@ module _ (format : Format) (slots : List Slot) (sixteen : length slots ≡ 16) w
 
 -- what is sought, by what was found out
 module _ (format : Format) (slots : List Slot) (key : Key) where
-  pub sought-unsound : sound format slots ≡ false → Unsound ≡ sought format slots key
-  sought-unsound e = rw e
+  pub sought-unsound : sound format slots ≡ false → refused (number State) ≡ sought format slots key
+  sought-unsound e = stop State _ _ e
 
-  sought-at : (i : ℕ) → sound format slots ≡ true → i ≡ place (hasKey key) slots → At i ≡ sought format slots key
-  sought-at i e q = rw (e, q)
+  sought-at : (i : ℕ) → sound format slots ≡ true → i ≡ place (hasKey key) slots → value i ≡ sought format slots key
+  sought-at i e q = ap value q ∙ pass State _ _ e (none-left _)
 
   pub sought-nowhere : length slots ≡ 16 → slotsSound format slots ≡ true → sound format slots ≡ true → keyInRange format key ≡ false
-      → At 16 ≡ sought format slots key
+      → value 16 ≡ sought format slots key
   sought-nowhere n s e r = sought-at 16 e (sym (out-of-range format key slots r s ∙ n))
 
   pub sought-found : (codes : List ℕ) (i : ℕ) → slotsSound format slots ≡ true → codes ≡ codesFrom slots 0 → sound format slots ≡ true
-      → keyInRange format key ≡ true → i ≡ place (is (keyCode key)) codes → At i ≡ sought format slots key
+      → keyInRange format key ≡ true → i ≡ place (is (keyCode key)) codes → value i ≡ sought format slots key
   sought-found codes i s q e r w = sought-at i e (w ∙ ap (place (is (keyCode key))) q ∙ place-codes format key slots 0 r s)

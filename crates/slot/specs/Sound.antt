@@ -2,12 +2,14 @@
 -- collecting is a multiple of the piece size (8 to 2,048 extended, 7 to 1,785 standard), and h when done is within the format's
 -- limit." And it has 16 slots.
 use Prim.Native.Nat.{ℕ, _%_}
-use mathlib.Core.Bool.{Bool, true, false, cond, not, _||_}
+use mathlib.Core.Bool.{Bool, true, false, not, _||_}
 use mathlib.Core.List.{List, [], _∷_}
 use lib.Dec.{leb, eqb}
 use lib.ListN.{length}
 use Rattle.format.specs.declared.Format.{Format}
 use Rattle.format.specs.declared.Format.the-variants.{Extended, Standard}
+use Rattle.format.specs.declared.Refusal.the-variants.{State}
+use Rattle.format.specs.Refusals.{Result, check, guarded}
 use Rattle.format.specs.Tests.{all}
 use Rattle.format.specs.Formats.{pieceSize, packetLimit, formatOf, inRange}
 use Rattle.stream.specs.declared.Progress.{Progress}
@@ -16,8 +18,6 @@ use Rattle.slot.specs.declared.Key.{Key}
 use Rattle.slot.specs.declared.Occupancy.{Occupancy}
 use Rattle.slot.specs.declared.Occupancy.the-variants.{Closed, Open}
 use Rattle.slot.specs.declared.Slot.{Slot}
-use Rattle.slot.specs.declared.Sought.{Sought}
-use Rattle.slot.specs.declared.Sought.the-variants.{Unsound, At}
 use Rattle.slot.specs.Slots.{hasKey, place}
 
 abbrev pub sameFormat : Format → Format → Bool
@@ -65,6 +65,6 @@ keysDiffer (slot ∷ slots) = all (not (repeatedIn (slot .occupancy) slots) ∷ 
 unfoldable pub sound : Format → List Slot → Bool
 sound format slots = all (eqb (length slots) 16 ∷ slotsSound format slots ∷ keysDiffer slots ∷ [])
 
--- where a key is open, the number of slots if nowhere; of sound slots only
-abbrev pub sought : Format → List Slot → Key → Sought
-sought format slots key = cond (sound format slots) (At (place (hasKey key) slots)) Unsound
+-- where a key is open, 16 if nowhere; STATE where the slots are not sound
+abbrev pub sought : Format → List Slot → Key → Result ℕ
+sought format slots key = guarded (check State (sound format slots) ∷ []) (place (hasKey key) slots)

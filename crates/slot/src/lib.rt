@@ -2,12 +2,15 @@
 use format::Extended;
 use format::Fields;
 use format::Format;
+use format::Outcome;
+use format::Refusal;
 use format::Standard;
 use stream::Progress;
 ghost use Prim.Native.Nat.{_<_, _≤_};
 ghost use lib.ListN.{length, drop};
 ghost use mathlib.Core.Bool.{true};
 ghost use mathlib.Core.Path.{_≡_};
+ghost use Rattle.format.specs.Refusals.{meaning};
 ghost use Rattle.slot.specs.Codes.{keyCode, slotCode, codesFrom, is, clashing};
 ghost use Rattle.slot.specs.Slots.{isClosed, closed, place};
 ghost use Rattle.slot.specs.Sound.{sameFormat, keyInRange, fits, slotSound, slotsSound, any, sound, sought};
@@ -30,12 +33,6 @@ pub enum Occupancy {
 
 pub struct Slot {
     pub occupancy: Occupancy,
-}
-
-// Where a key is open among sound slots, 16 if nowhere.
-pub enum Sought {
-    Unsound,
-    At(usize),
 }
 
 fn same_format(a: Format, b: Format) -> bool
@@ -110,8 +107,8 @@ fn widened(x: u8) -> u32
     x as u32
 }
 
-// One number for each key in range. It is made of whole bytes, so that the machine takes fields
-// that lie side by side at once; the function and the bus lie above the priority.
+// One number for each key in range, made of whole bytes as the fields lie in memory; the function
+// and the bus lie above the priority.
 fn key_code(key: Key) -> u32
     requires { ⌜ keyCode key < 4294967296 ⌝ }
     ensures { λ r. ⌜ r ≡ keyCode key ⌝ }
@@ -177,8 +174,7 @@ fn scan(format: Format, slots: [Slot; 16], codes: &mut [u32; 16]) -> bool
     true
 }
 
-// Whether the code is among those from a place on. No branch in the row: it is compared four
-// codes at a time.
+// Whether the code is among those from a place on. No branch in the row.
 fn repeated(codes: &[u32; 16], from: usize, code: u32) -> bool
     requires { ⌜ (from ≤ 16) × (length (now codes) ≡ 16) ⌝ }
     ensures { λ r. ⌜ r ≡ any (is code) (drop from (now (codes .entry))) ⌝ }
@@ -258,20 +254,21 @@ pub fn sound(format: Format, slots: [Slot; 16]) -> bool
     }
 }
 
-// Where the key is open. Soundness is found out on the way, from the same codes.
-pub fn seek(format: Format, slots: [Slot; 16], key: Key) -> Sought
-    ensures { λ r. ⌜ r ≡ sought format slots key ⌝ }
+// Where the key is open, 16 if nowhere, or STATE. Soundness is found out on the way, from the same
+// codes.
+pub fn seek(format: Format, slots: [Slot; 16], key: Key) -> Outcome
+    ensures { λ r. ⌜ meaning r ≡ sought format slots key ⌝ }
 {
     let mut codes = [0u32; 16];
     if !scan(format, slots, &mut codes) {
-        return Sought::Unsound;
+        return Outcome::Refused(Refusal::State);
     }
     if clash(&codes) {
-        return Sought::Unsound;
+        return Outcome::Refused(Refusal::State);
     }
-    // in sound slots no key out of range is open
+    // In sound slots no key out of range is open.
     if !key_in_range(format, key) {
-        return Sought::At(16);
+        return Outcome::Value(16);
     }
-    Sought::At(find_code(&codes, key_code(key)))
+    Outcome::Value(find_code(&codes, key_code(key)))
 }

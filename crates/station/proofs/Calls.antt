@@ -26,7 +26,8 @@ use Rattle.slot.specs.Sound.{keyInRange, fits, slotSound, slotsSound, keysDiffe
 use Rattle.slot.proofs.Keys.{same-key}
 use Rattle.station.specs.declared.Station.{Station}
 use Rattle.station.specs.Stations.{soundStation, area, withArea, fullSize}
-use Rattle.station.specs.Receive.{After, unchanged, progressIn, progressOf, stepAt, deliver, judgedAs, examined, receive}
+use Rattle.station.specs.Run.{examined}
+use Rattle.station.specs.Receive.{After, unchanged, progressIn, progressOf, stepAt, deliver, judgedAs, receive}
 use Rattle.station.proofs.Areas.{area-length, put-length, put-same, put-other}
 use Rattle.station.proofs.Steps.{Carrying, judged-carries, Keeps, keeps}
 use Rattle.station.proofs.Slots.{found, sound-at, sound-set, differ-set}

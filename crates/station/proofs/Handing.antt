@@ -10,6 +10,7 @@ use lib.ListN.{length, set, take, drop}
 use lib.Seq.{length-take-le, take-take}
 use borrow.Author.Tests.{leb-true, eqb-true, ltb-true, eq-eqb, ne-eqb, lt-ltb, le-ltb}
 use Rattle.format.specs.declared.Format.{Format}
+use Rattle.format.specs.declared.Refusal.{Refusal}
 use Rattle.format.specs.declared.Refusal.the-variants as refusal
 use Rattle.format.specs.Formats.{packetLimit}
 use Rattle.format.specs.Refusals.{Result, value, refused, check, number}
@@ -23,14 +24,14 @@ use Rattle.slot.specs.declared.Slot.{Slot}
 use Rattle.slot.specs.declared.Occupancy.{Occupancy}
 use Rattle.slot.specs.declared.Occupancy.the-variants.{Closed, Open}
 use Rattle.slot.specs.Slots.{closedSlot, openSlot, slotAt, isClosed, hasKey, place}
-use Rattle.slot.specs.Sound.{keyInRange, fits, slotSound, sound}
+use Rattle.slot.specs.Sound.{keyInRange, fits, slotSound, sound, sought}
 use Rattle.station.specs.declared.Station.{Station}
 use Rattle.station.specs.Stations.{soundStation, withSlots, area, fullSize}
 use Rattle.station.specs.Receive.{progressIn, progressOf}
 use Rattle.station.specs.Open.{Handed, handed, opening, isOpen, closing}
 use Rattle.station.specs.Read.{isDone, held, reading, lengthOf, partOf}
-use Rattle.station.specs.Parts.{openAt}
 use Rattle.station.proofs.Areas.{area-length}
+use Rattle.station.proofs.Turning.{sought-refused}
 use Rattle.station.proofs.Slots.{sound-at}
 
 abbrev refuses : Station → ℕ → Handed
@@ -45,9 +46,11 @@ is-lt n h = rw (lt-ltb n 16 h)
 -- ---- opening
 
 module _ (station : Station) (key : Key) where
-  pub open-state : soundStation station ≡ false → refuses station (number refusal.State) ≡ opening station key
+  pub open-state : (name : Refusal) → refused (number name) ≡ sought (station .format) (station .slots) key → refuses station (number name) ≡ opening station key
   unfolding opening
-  open-state s = ap (handed station (openSlot key Idle)) (stop refusal.State _ _ s)
+  open-state name e =
+      let u = sought-refused (station .format) (station .slots) key (number name) (sym e) in
+      ap (handed station (openSlot key Idle)) (ap refused (u .1) ∙ stop refusal.State _ _ (u .0))
 
   module _ (s : soundStation station ≡ true) where
     pub open-field : keyInRange (station .format) key ≡ false → refuses station (number refusal.Field) ≡ opening station key
@@ -82,17 +85,17 @@ module _ (station : Station) (i : ℕ) where
   unfolding closing
   close-state s = ap (handed station closedSlot) (stop refusal.State _ _ s)
 
-  pub close-closed : soundStation station ≡ true → openAt (station .slots) i ≡ false → refuses station (number refusal.Closed) ≡ closing station i
-  unfolding closing openAt
+  pub close-closed : soundStation station ≡ true → isOpen (station .slots) i ≡ false → refuses station (number refusal.Closed) ≡ closing station i
+  unfolding closing isOpen
   close-closed s o = ap (handed station closedSlot) (pass refusal.State _ _ s (stop refusal.Closed _ _ o))
 
-  pub close-open : soundStation station ≡ true → openAt (station .slots) i ≡ true
+  pub close-open : soundStation station ≡ true → isOpen (station .slots) i ≡ true
       → _≡_ {A = Handed} (record { answer = value i; station = withSlots station (set (station .slots) i closedSlot) }) (closing station i)
-  unfolding closing openAt
+  unfolding closing isOpen
   close-open s o = ap (handed station closedSlot) (pass refusal.State _ _ s (pass refusal.Closed _ _ o (none-left i)))
 
-pub open-below : (slots : List Slot) (i : ℕ) → openAt slots i ≡ true → i < 16
-unfolding openAt
+pub open-below : (slots : List Slot) (i : ℕ) → isOpen slots i ≡ true → i < 16
+unfolding isOpen
 open-below slots i o = ltb-true i 16 (each _ o .0)
 
 -- ---- reading
@@ -108,19 +111,19 @@ module _ (station : Station) (store : List ℕ) (i : ℕ) where
     read-store w = ap lengthOf (pass refusal.State _ _ s (stop refusal.Store _ _ (ne-eqb _ _ w)))
 
     module _ (w : length store ≡ 32768) where
-      pub read-closed : openAt (station .slots) i ≡ false → refused (number refusal.Closed) ≡ lengthOf (reading station store i)
-      unfolding reading openAt
+      pub read-closed : isOpen (station .slots) i ≡ false → refused (number refusal.Closed) ≡ lengthOf (reading station store i)
+      unfolding reading isOpen
       read-closed o = ap lengthOf (pass refusal.State _ _ s (pass refusal.Store _ _ (eq-eqb _ _ w) (stop refusal.Closed _ _ o)))
 
-      module _ (o : openAt (station .slots) i ≡ true) (p : Progress) (e : p ≡ progressOf (slotAt (station .slots) i)) where
+      module _ (o : isOpen (station .slots) i ≡ true) (p : Progress) (e : p ≡ progressOf (slotAt (station .slots) i)) where
         as-read : isDone p ≡ true → reading station store i ≡ value (take (held p) (area store i))
-        unfolding reading openAt
+        unfolding reading isOpen
         as-read d =
             rw (sym e)
             (sym (pass refusal.State _ _ s (pass refusal.Store _ _ (eq-eqb _ _ w) (pass refusal.Closed _ _ o (pass refusal.NoPacket _ _ d (none-left _))))))
 
         pub read-none : isDone p ≡ false → refused (number refusal.NoPacket) ≡ lengthOf (reading station store i)
-        unfolding reading openAt
+        unfolding reading isOpen
         read-none d =
             rw (sym e)
             (ap lengthOf (pass refusal.State _ _ s (pass refusal.Store _ _ (eq-eqb _ _ w) (pass refusal.Closed _ _ o (stop refusal.NoPacket _ _ d)))))
@@ -144,7 +147,7 @@ pub record Readable (station : Station) (store : List ℕ) (i h : ℕ) : Type 0 
   pub part : value (take h (drop (2048 * i) store)) ≡ reading station store i
   pub size : length (take h (drop (2048 * i) store)) ≡ h
 
-module _ (station : Station) (store : List ℕ) (i : ℕ) (s : soundStation station ≡ true) (w : length store ≡ 32768) (o : openAt (station .slots) i ≡ true) where
+module _ (station : Station) (store : List ℕ) (i : ℕ) (s : soundStation station ≡ true) (w : length store ≡ 32768) (o : isOpen (station .slots) i ≡ true) where
   pub readable : (p : Progress) → p ≡ progressOf (slotAt (station .slots) i) → isDone p ≡ true → Readable station store i (held p)
   unfolding sound area
   readable p e d =
@@ -168,10 +171,10 @@ read-done station store i h r = ap value (sym (r .size)) ∙ ap lengthOf (r .par
 
 -- a length that reading answers is that of a readable packet
 from-length : (station : Station) (store : List ℕ) (i h : ℕ) (r : Result (List ℕ)) → reading station store i ≡ r → value h ≡ lengthOf r → Readable station store i h
-unfolding reading openAt
+unfolding reading isOpen
 from-length station store i h (value bytes) e q =
     let p = progressOf (slotAt (station .slots) i) in
-    let c = passed (check refusal.State (soundStation station) ∷ check refusal.Store (fullSize store) ∷ check refusal.Closed (isOpen station i) ∷ check refusal.NoPacket (isDone p) ∷ []) (take (held p) (area store i)) bytes e in
+    let c = passed (check refusal.State (soundStation station) ∷ check refusal.Store (fullSize store) ∷ check refusal.Closed (isOpen (station .slots) i) ∷ check refusal.NoPacket (isDone p) ∷ []) (take (held p) (area store i)) bytes e in
     let r = readable station store i (c .0 .0) (eqb-true _ _ (c .0 .1 .0)) (c .0 .1 .1 .0) p refl (c .0 .1 .1 .1 .0) in
     let same : held p ≡ h = sym (r .size) ∙ ap length (packet-of (r .part ∙ e)) ∙ sym (number-of q) in
     subst (Readable station store i) same r

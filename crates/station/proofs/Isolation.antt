@@ -20,9 +20,9 @@ use Rattle.slot.specs.Slots.{closedSlot, openSlot, slotAt, sameKey, hasKey}
 use Rattle.slot.proofs.Keys.{same-key}
 use Rattle.station.specs.declared.Station.{Station}
 use Rattle.station.specs.Stations.{area}
-use Rattle.station.specs.Receive.{After, keyOf, progressOf, deliver, judgedAs, examined, receive}
+use Rattle.station.specs.Receive.{After, keyOf, progressOf, deliver, judgedAs, receive}
 use Rattle.station.specs.Read.{reading}
-use Rattle.station.specs.Run.{Call, Ran, run, addIfOf, framesOf, answersOf, Alone, oneStream}
+use Rattle.station.specs.Run.{examined, Call, Ran, run, addIfOf, framesOf, answersOf, Alone, oneStream}
 use Rattle.station.specs.Demands.{IsStream, shown, alone, Isolated, SameFrames, Agree, Demand3}
 use Rattle.station.proofs.Areas.{ext-areas}
 use Rattle.station.proofs.Steps.{Carrying}
@@ -168,6 +168,7 @@ module _ (station : Station) (store : List ℕ) (g : Good station store) where
             λ k. record { answers = e .said k; progress = progressOf (e .slot k); area = e .bytes k };
         slots = λ i stream s. ends calls i stream s .slot;
         closed = λ i s. closed-run i (s .0) calls station store g (s .1);
+        format = ended calls station store g .same;
       }
 
   module _ (calls others : List Call) (same : SameFrames station calls others) where

@@ -9,7 +9,7 @@ use lib.Dec.{leb, eqb}
 use lib.ListN.{length, take, drop, replicate, length-append}
 use lib.Seq.{length-take-le, take-at, drop-append-add, drop-drop, take-add, take-all}
 use borrow.Author.Tests.{leb-false, le-leb, lt-leb, eq-eqb, ne-eqb}
-use Rattle.bytes.specs.Copy.{written}
+use Rattle.copying.specs.Copy.{written}
 use Rattle.format.specs.declared.Format.{Format}
 use Rattle.format.specs.declared.Fields.{Fields}
 use Rattle.format.specs.declared.Flag.the-variants.{Middle, Start, End, Single}

@@ -8,7 +8,7 @@ use lib.Dec.{leb}
 use lib.ListN.{length, drop}
 use lib.Seq.{take-at}
 use borrow.Author.Tests.{lt-ltb, eq-eqb}
-use Rattle.bytes.specs.Copy.{written}
+use Rattle.copying.specs.Copy.{written}
 use Rattle.format.specs.declared.Format.{Format}
 use Rattle.format.specs.declared.Format.the-variants.{Extended, Standard}
 use Rattle.format.specs.declared.Refusal.the-variants as refusal
@@ -31,9 +31,10 @@ use Rattle.slot.specs.Sound.{sameFormat, keyInRange, slotSound}
 use Rattle.slot.proofs.Keys.{same-key-refl}
 use Rattle.station.specs.declared.Station.{Station}
 use Rattle.station.specs.Stations.{soundStation, area, fullSize}
-use Rattle.station.specs.Receive.{keyOf, examined}
+use Rattle.station.specs.Receive.{keyOf}
+use Rattle.station.specs.Open.{isOpen}
 use Rattle.station.specs.Read.{reading}
-use Rattle.station.specs.Run.{Call, run, addIfOf, framesOf, Alone, oneStream}
+use Rattle.station.specs.Run.{examined, Call, run, addIfOf, framesOf, Alone, oneStream}
 use Rattle.station.specs.Demands.{IsStream, shown, alone, Demand3, fed, woven, answersTo, RoundTrip}
 use Rattle.station.proofs.Slots.{sound-at}
 use Rattle.station.proofs.Calls.{Good, good, stays-sound}
@@ -101,7 +102,7 @@ module _ (key : Key) (bytes : List ℕ) (bus : leb (key .bus) 1 ≡ true) (split
 
 reads : (station : Station) (store : List ℕ) → Good station store → (i : ℕ) → i < 16 → (key : Key) (a bytes : List ℕ)
     → slotAt (station .slots) i ≡ openSlot key (Done (length bytes)) → area store i ≡ written a 0 bytes → reading station store i ≡ value bytes
-unfolding reading written
+unfolding reading isOpen written
 reads station store g i h key a bytes e w =
     let s : soundStation station ≡ true = stays-sound station store g in
     let f : fullSize store ≡ true = eq-eqb _ _ (g .whole) in

@@ -1,21 +1,21 @@
 -- Every call keeps a sound station sound; a sound standard station never answers LONG; and sound stations with streams exist.
 use Prim.Native.Nat.{ℕ, _≤_, _<_}
-use mathlib.Core.Path.{_≡_, refl, _∙_}
+use mathlib.Core.Path.{_≡_, refl, sym, ap, _∙_, subst}
 use mathlib.Core.Logic.{_≢_}
 use mathlib.Core.Bool.{Bool, true, false, cond, not}
 use mathlib.Core.List.{List, [], _∷_}
 use native.Mathlib.Omega.{arith}
 use lib.Dec.{leb, ltb, eqb}
-use lib.ListN.{length, set, length-set}
-use lib.Seq.{getD-set-same}
-use borrow.Author.Tests.{ltb-true, ltb-false, eqb-true, eq-eqb, ne-eqb, not-true}
+use lib.ListN.{length, set, length-set, length-replicate}
+use lib.Seq.{getD-set-same, getD-set-other}
+use borrow.Author.Tests.{lt-ltb, ltb-true, ltb-false, eqb-true, eq-eqb, ne-eqb, not-true}
 use Rattle.format.specs.declared.Format.{Format}
 use Rattle.format.specs.declared.Format.the-variants.{Extended, Standard}
 use Rattle.format.specs.declared.Refusal.the-variants as refusal
 use Rattle.format.specs.Refusals.{Result, value, refused, Check, check, guarded, number}
 use Rattle.format.specs.Tests.{all, allAfter}
 use Rattle.format.proofs.Tests.{each, from-each}
-use Rattle.format.proofs.Checks.{passed}
+use Rattle.format.proofs.Checks.{passed, pass, none-left}
 use Rattle.frame.specs.Layout.{layout}
 use Rattle.frame.specs.Judge.{Frame, Judged, checks, readBy, judge}
 use Rattle.stream.specs.declared.Progress.the-variants.{Idle}
@@ -23,11 +23,14 @@ use Rattle.stream.specs.Answers.{Reply, filtered}
 use Rattle.stream.specs.Step.{step}
 use Rattle.slot.specs.declared.Key.{Key}
 use Rattle.slot.specs.declared.Slot.{Slot}
+use Rattle.slot.specs.declared.Stream.{Stream}
 use Rattle.slot.specs.Slots.{closedSlot, openSlot, slotAt, isClosed, hasKey, place}
 use Rattle.slot.specs.Sound.{keyInRange, fits, slotSound, slotsSound, keysDiffer, sound}
+use Rattle.slot.proofs.Places.{place-holds}
 use Rattle.station.specs.declared.Station.{Station}
 use Rattle.station.specs.Stations.{newStation, soundStation, withSlots, area, fullSize}
-use Rattle.station.specs.Receive.{After, unchanged, keyOf, progressOf, stepAt, deliver, judgedAs, examined, receive}
+use Rattle.station.specs.Run.{examined}
+use Rattle.station.specs.Receive.{After, unchanged, keyOf, progressOf, stepAt, deliver, judgedAs, receive}
 use Rattle.station.specs.Open.{handed, opening, isOpen, closing}
 use Rattle.station.specs.Demands.{IsStream, StaysSound, NeverLong, CanBeMet}
 use Rattle.station.proofs.Slots.{clashes, found, sound-set, differ-set}
@@ -111,7 +114,7 @@ pub stays : StaysSound
 unfolding StaysSound opening closing
 stays station s = (
   λ key. open-keeps station key s _ refl,
-  λ i. close-keeps station s (guarded (check refusal.State (soundStation station) ∷ check refusal.Closed (isOpen station i) ∷ []) i),
+  λ i. close-keeps station s (guarded (check refusal.State (soundStation station) ∷ check refusal.Closed (isOpen (station .slots) i) ∷ []) i),
   λ store bus image. receive-keeps station s store bus image,
 )
 
@@ -203,6 +206,41 @@ first-opened : (format : Format) (key : Key) → keyInRange format key ≡ true 
 unfolding opening guarded place
 first-opened format key e = rw (new-sound format, e)
 
+opens : (station : Station) (key : Key) → soundStation station ≡ true → keyInRange (station .format) key ≡ true
+    → place (hasKey key) (station .slots) ≡ 16 → place isClosed (station .slots) < 16
+    → opening station key .answer ≡ value (place isClosed (station .slots))
+unfolding opening
+opens station key s r f l =
+    let free : not (ltb (place (hasKey key) (station .slots)) 16) ≡ true = rw f refl in
+    sym (ap (λ (x : Result ℕ). handed station (openSlot key Idle) x .answer)
+    (pass refusal.State _ _ s (pass refusal.Field _ _ r (pass refusal.Taken _ _ free (pass refusal.Full _ _ (lt-ltb _ 16 l) (none-left _))))))
+
+-- the streams that are open stay
+beside-as : (station : Station) (key : Key) (i : ℕ) (stream : Stream) → IsStream station i stream → (r : Result ℕ)
+    → guarded (openChecks station key) (place isClosed (station .slots)) ≡ r → IsStream (handed station (openSlot key Idle) r .station) i stream
+beside-as station key i stream h (refused n) e = h
+beside-as station key i stream h (value j) e =
+    let p = passed (openChecks station key) (place isClosed (station .slots)) j e in
+    let inside = opened-as station key (value j) e j refl .1 in
+    let closed : isClosed (slotAt (station .slots) j) ≡ true =
+    subst (λ (n : ℕ). isClosed (slotAt (station .slots) n) ≡ true) (p .1) (place-holds isClosed (station .slots) closedSlot (omega (arith, p .1, inside))) in
+    let apart : i ≢ j = λ q.
+    let z : false ≡ true = sym (ap isClosed (h .1)) ∙ ap (λ (n : ℕ). isClosed (slotAt (station .slots) n)) q ∙ closed in
+    let y : _≡_ {A = ℕ} 0 1 = cc in
+    omega arith in
+    (h .0, getD-set-other (station .slots) j i (openSlot key Idle) closedSlot apart ∙ h .1)
+
+beside : (station : Station) (key : Key) (i : ℕ) (stream : Stream) → IsStream station i stream → IsStream (opening station key .station) i stream
+unfolding opening
+beside station key i stream h = beside-as station key i stream h _ refl
+
 pub met : CanBeMet
-unfolding CanBeMet
-met = (new-sound, is-opened, first-opened)
+met =
+    record {
+      new = new-sound;
+      store = eq-eqb _ _ (length-replicate {A = ℕ} 32768 0);
+      opens = opens;
+      first = first-opened;
+      opened = is-opened;
+      beside = beside;
+    }

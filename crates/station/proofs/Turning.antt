@@ -3,7 +3,7 @@ use Prim.Native.Nat.{ℕ, _+_, _-_, _*_, _≤_, _<_}
 use mathlib.Core.Path.{_≡_, refl, sym, ap, _∙_}
 use mathlib.Core.Logic.{_≢_}
 use mathlib.Core.Bool.{Bool, true, false, cond}
-use mathlib.Core.List.{List, _++_}
+use mathlib.Core.List.{List, [], _∷_, _++_}
 use native.Mathlib.Omega.{arith}
 use lib.Dec.{leb, eqb}
 use lib.ListN.{length, set, take, drop, length-drop}
@@ -13,7 +13,11 @@ use borrow.Author.Tests.{eq-eqb, ne-eqb, lt-ltb, le-ltb, lt-leb, le-leb}
 use Rattle.format.specs.declared.Format.{Format}
 use Rattle.format.specs.declared.Refusal.{Refusal}
 use Rattle.format.specs.declared.Refusal.the-variants.{Field, Store, State}
-use Rattle.format.specs.Refusals.{Result, value, refused, number, guarded}
+use Rattle.format.specs.declared.Outcome.{Outcome}
+use Rattle.format.specs.declared.Outcome.the-variants as outcome
+use Rattle.format.proofs.Checks.{stop, passed}
+use Rattle.format.specs.Refusals as answers
+use Rattle.format.specs.Refusals.{check, Result, value, refused, number, guarded}
 use Rattle.frame.specs.declared.Head.{Head}
 use Rattle.frame.specs.declared.Verdict.{Verdict}
 use Rattle.frame.specs.declared.Verdict.the-variants as verdict
@@ -27,8 +31,6 @@ use Rattle.stream.specs.Answers.{meaning}
 use Rattle.stream.specs.Step.{Next, step, offered, after}
 use Rattle.slot.specs.declared.Key.{Key}
 use Rattle.slot.specs.declared.Slot.{Slot}
-use Rattle.slot.specs.declared.Sought.{Sought}
-use Rattle.slot.specs.declared.Sought.the-variants.{Unsound, At}
 use Rattle.slot.specs.Slots.{closedSlot, openSlot, slotAt, hasKey, place}
 use Rattle.slot.specs.Sound.{sound, sought}
 use Rattle.station.specs.declared.Station.{Station}
@@ -46,20 +48,19 @@ abbrev pub turnOf : ℕ → Slot → Answer → Turn
 turnOf at slot answer = record { at = at; slot = slot; answer = answer }
 
 -- what a search says of the slots
-pub sought-unsound : (format : Format) (slots : List Slot) (key : Key) → sought format slots key ≡ Unsound → sound format slots ≡ false
-sought-unsound format slots key e = go (sound format slots) e
+pub sought-refused : (format : Format) (slots : List Slot) (key : Key) (n : ℕ) → sought format slots key ≡ refused n
+    → (sound format slots ≡ false) × (n ≡ number State)
+unfolding guarded
+sought-refused format slots key n e = go (sound format slots) e
   where
-    go : (b : Bool) → cond b (At (place (hasKey key) slots)) Unsound ≡ Unsound → b ≡ false
+    go : (b : Bool) → cond b (value (place (hasKey key) slots)) (refused (number State)) ≡ refused n → (b ≡ false) × (n ≡ number State)
     go true e = let z : _≡_ {A = ℕ} 0 1 = cc in absurd (omega arith)
-    go false e = refl
+    go false e = (refl, (cc))
 
-pub sought-at : (format : Format) (slots : List Slot) (key : Key) (i : ℕ) → sought format slots key ≡ At i
+pub sought-at : (format : Format) (slots : List Slot) (key : Key) (i : ℕ) → sought format slots key ≡ value i
     → (sound format slots ≡ true) × (place (hasKey key) slots ≡ i)
-sought-at format slots key i e = go (sound format slots) e
-  where
-    go : (b : Bool) → cond b (At (place (hasKey key) slots)) Unsound ≡ At i → (b ≡ true) × (place (hasKey key) slots ≡ i)
-    go true e = (refl, (cc))
-    go false e = let z : _≡_ {A = ℕ} 0 1 = cc in absurd (omega arith)
+sought-at format slots key i e =
+    let p = passed (check State (sound format slots) ∷ []) (place (hasKey key) slots) i e in (p .0 .0, p .1)
 
 module _ (format : Format) (slots : List Slot) (store : List ℕ) (bus : ℕ) (image : List ℕ) where
   -- no slot changes
@@ -82,10 +83,13 @@ module _ (format : Format) (slots : List Slot) (store : List ℕ) (bus : ℕ) (i
       go true true false = stays (Refused Field) _ refl
       go true true true = stays (Refused own) _ (ap (λ (j : Result Judged). judgedAs (stationOf format slots) store bus (value j)) (sym e))
 
-  pub at-state : sound format slots ≡ false
-      → afterTurn format slots (turnOf 0 (slotAt slots 0) (Refused State)) store ≡ receive (stationOf format slots) store bus image
-  unfolding receive guarded
-  at-state s = stays (Refused State) _ (rw s)
+  pub at-state : (key : Key) (name : Refusal) → refused (number name) ≡ sought format slots key
+      → afterTurn format slots (turnOf 0 (slotAt slots 0) (Refused name)) store ≡ receive (stationOf format slots) store bus image
+  unfolding receive
+  at-state key name e =
+      let u = sought-refused format slots key (number name) (sym e) in
+      let why = sym (stop State _ _ (u .0)) ∙ ap refused (sym (u .1)) in
+      stays (Refused name) _ (ap (judgedAs (stationOf format slots) store bus) why)
 
   pub at-store : sound format slots ≡ true → length store ≢ 32768
       → afterTurn format slots (turnOf 0 (slotAt slots 0) (Refused Store)) store ≡ receive (stationOf format slots) store bus image
@@ -165,11 +169,11 @@ pub record Found (format : Format) (slots : List Slot) (bus : ℕ) (image : List
   pub start : head .start ≤ length image
   pub bytes : length image - head .start ≤ 8
 
-pub found : (format : Format) (slots : List Slot) (bus : ℕ) (image : List ℕ) (head : Head) (i : ℕ) (v : Verdict) (s : Sought)
+pub found : (format : Format) (slots : List Slot) (bus : ℕ) (image : List ℕ) (head : Head) (i : ℕ) (v : Verdict) (o : Outcome)
     → verdicts.meaning v image ≡ judge format image → v ≡ verdict.Sound head
-    → s ≡ sought format slots (keyOf bus (frameOf head image)) → s ≡ At i → Found format slots bus image head i
-found format slots bus image head i v s e ev es ei =
+    → answers.meaning o ≡ sought format slots (keyOf bus (frameOf head image)) → o ≡ outcome.Value i → Found format slots bus image head i
+found format slots bus image head i v o e ev es ei =
     let j = ap (λ (v : Verdict). verdicts.meaning v image) (sym ev) ∙ e in
-    let t = sought-at format slots (keyOf bus (frameOf head image)) i (sym es ∙ ei) in
+    let t = sought-at format slots (keyOf bus (frameOf head image)) i (sym es ∙ ap answers.meaning ei) in
     let n = judged-start format image (record { frame = frameOf head image; start = head .start }) (sym j) in
     record { ok = t .0; placed = t .1; judged = j; start = n .0; bytes = n .1 }

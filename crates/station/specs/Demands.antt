@@ -21,7 +21,7 @@ use Rattle.stream.specs.Answers.{Reply, packet, kept}
 use Rattle.stream.specs.Step.{collecting}
 use Rattle.slot.specs.declared.Key.{Key}
 use Rattle.slot.specs.declared.Stream.{Stream}
-use Rattle.slot.specs.Slots.{closedSlot, openSlot, slotAt}
+use Rattle.slot.specs.Slots.{closedSlot, openSlot, slotAt, isClosed, hasKey, place}
 use Rattle.slot.specs.Sound.{keyInRange}
 use Rattle.station.specs.declared.Station.{Station}
 use Rattle.station.specs.Stations.{newStation, soundStation, area, fullSize}
@@ -54,7 +54,7 @@ alone format i stream store calls =
     oneStream format (stream .progress) (area store i) (framesOf format (stream .key) calls)
 
 -- whatever the other streams send: each stream is shown as it would be alone, and stays open with its key; closed slots and
--- their areas stay as they were
+-- their areas stay as they were, and so does the format
 pub record Isolated (station : Station) (store : List ℕ) (calls : List Call) : Type 0 where
   pub streams : (i : ℕ) (stream : Stream) → IsStream station i stream
       → shown (station .format) i (stream .key) calls (run station store calls) ≡ alone (station .format) i stream store calls
@@ -63,6 +63,7 @@ pub record Isolated (station : Station) (store : List ℕ) (calls : List Call) :
       ≡ openSlot (stream .key) (alone (station .format) i stream store calls .progress)
   pub closed : (i : ℕ) → IsClosed station i
       → (slotAt (run station store calls .station .slots) i ≡ closedSlot) × (area (run station store calls .store) i ≡ area store i)
+  pub format : run station store calls .station .format ≡ station .format
 
 -- two runs give each stream the same frames in the same order
 unfoldable pub SameFrames : Station → List Call → List Call → Type 0
@@ -141,10 +142,17 @@ NeverLong =
 
 -- ---- the premises can be met
 
--- a new station is sound; one with a stream opened is, and has that stream, idle
-unfoldable pub CanBeMet : Type 0
-CanBeMet =
-    ((format : Format) → soundStation (newStation format) ≡ true)
-    × ((station : Station) (key : Key) (i : ℕ) → opening station key .answer ≡ value i
-    → (soundStation (opening station key .station) ≡ true) × IsStream (opening station key .station) i (record { key = key; progress = Idle }))
-    × ((format : Format) (key : Key) → keyInRange format key ≡ true → opening (newStation format) key .answer ≡ value 0)
+pub record CanBeMet : Type 0 where
+  -- a new station is sound, and there is a full-size store
+  pub new : (format : Format) → soundStation (newStation format) ≡ true
+  pub store : fullSize (replicate 32768 0) ≡ true
+  -- a key in range that is not open gets the lowest closed slot, if there is one; in a new station that is slot 0
+  pub opens : (station : Station) (key : Key) → soundStation station ≡ true → keyInRange (station .format) key ≡ true
+      → place (hasKey key) (station .slots) ≡ 16 → place isClosed (station .slots) < 16
+      → opening station key .answer ≡ value (place isClosed (station .slots))
+  pub first : (format : Format) (key : Key) → keyInRange format key ≡ true → opening (newStation format) key .answer ≡ value 0
+  -- a station that has opened it is sound and has that stream, idle, beside the streams that it had
+  pub opened : (station : Station) (key : Key) (i : ℕ) → opening station key .answer ≡ value i
+      → (soundStation (opening station key .station) ≡ true) × IsStream (opening station key .station) i (record { key = key; progress = Idle })
+  pub beside : (station : Station) (key : Key) (i : ℕ) (stream : Stream) → IsStream station i stream
+      → IsStream (opening station key .station) i stream

@@ -2,7 +2,7 @@
 -- changes no store byte." "Refusal numbers", order: 21, 9; for opening 14, 15; for closing 16. Each answers the slot's number.
 use Prim.Native.Nat.{ℕ}
 use mathlib.Core.Bool.{Bool, not}
-use mathlib.Core.List.{[], _∷_}
+use mathlib.Core.List.{List, [], _∷_}
 use lib.Dec.{ltb}
 use lib.ListN.{set}
 use Rattle.format.specs.declared.Refusal.the-variants as refusal
@@ -42,13 +42,13 @@ opening station key =
     lowest)
 
 -- CLOSED: slot number over 15 or slot closed
-abbrev pub isOpen : Station → ℕ → Bool
-isOpen station i = all (ltb i 16 ∷ not (isClosed (slotAt (station .slots) i)) ∷ [])
+unfoldable pub isOpen : List Slot → ℕ → Bool
+isOpen slots i = all (ltb i 16 ∷ not (isClosed (slotAt slots i)) ∷ [])
 
 unfoldable pub closing : Station → ℕ → Handed
 closing station i =
     handed station closedSlot
-    (guarded (check refusal.State (soundStation station) ∷ check refusal.Closed (isOpen station i) ∷ []) i)
+    (guarded (check refusal.State (soundStation station) ∷ check refusal.Closed (isOpen (station .slots) i) ∷ []) i)
 
 -- what the code hands back says
 abbrev pub after : Changed → Handed

@@ -2,21 +2,20 @@
 -- from it.
 use Prim.Native.Nat.{ℕ}
 use mathlib.Core.Path.{_≡_}
-use mathlib.Core.Bool.{Bool, cond, not}
-use mathlib.Core.List.{List, [], _∷_}
-use lib.Dec.{leb, ltb, eqb}
+use mathlib.Core.Bool.{cond}
+use mathlib.Core.List.{List}
+use lib.Dec.{leb, eqb}
 use lib.ListN.{drop}
 use Rattle.format.specs.declared.Format.{Format}
 use Rattle.format.specs.declared.Refusal.{Refusal}
 use Rattle.format.specs.declared.Refusal.the-variants.{Field, Store, State}
-use Rattle.format.specs.Tests.{all}
 use Rattle.frame.specs.declared.Head.{Head}
 use Rattle.frame.specs.Judge.{Frame}
 use Rattle.stream.specs.Answers.{meaning}
 use Rattle.stream.specs.Step.{step}
 use Rattle.slot.specs.declared.Key.{Key}
 use Rattle.slot.specs.declared.Slot.{Slot}
-use Rattle.slot.specs.Slots.{openSlot, slotAt, isClosed}
+use Rattle.slot.specs.Slots.{openSlot}
 use Rattle.slot.specs.Sound.{sound}
 use Rattle.station.specs.declared.Turn.{Turn}
 use Rattle.station.specs.Stations.{area, withArea}
@@ -37,6 +36,3 @@ pub record Steps (format : Format) (slot : Slot) (i : ℕ) (key : Key) (frame : 
   pub slot′ : r .slot ≡ openSlot key (step format (progressOf slot) (area store i) frame .progress)
   pub answer : meaning (r .answer) ≡ step format (progressOf slot) (area store i) frame .answer
   pub bytes : last ≡ withArea store i (step format (progressOf slot) (area store i) frame .area)
-
-unfoldable pub openAt : List Slot → ℕ → Bool
-openAt slots i = all (ltb i 16 ∷ not (isClosed (slotAt slots i)) ∷ [])

@@ -1,7 +1,7 @@
 -- Document 01, "Streams and receiving": "Reading a done slot returns that part of the store itself, the head of the area, with no
 -- copying." "Refusal numbers": "reading answers length or number in one call and the part, empty if refused, in another",
 -- order: 21, 13; for reading 16, 17.
-use Prim.Native.Nat.{ℕ}
+use Prim.Native.Nat.{ℕ, _+_, _*_}
 use mathlib.Core.Bool.{Bool, true, false}
 use mathlib.Core.List.{List, [], _∷_}
 use lib.ListN.{length, take}
@@ -33,7 +33,7 @@ reading station store i =
     guarded
     (check refusal.State (soundStation station)
     ∷ check refusal.Store (fullSize store)
-    ∷ check refusal.Closed (isOpen station i)
+    ∷ check refusal.Closed (isOpen (station .slots) i)
     ∷ check refusal.NoPacket (isDone progress)
     ∷ [])
     (take (held progress) (area store i))
@@ -46,3 +46,9 @@ lengthOf (refused n) = refused n
 abbrev pub partOf : Result (List ℕ) → List ℕ
 partOf (value packet) = packet
 partOf (refused n) = []
+
+-- where that part begins, in a store that begins at `start`: at the slot's area. A refusal's empty part is the store's first none,
+-- which document 01 leaves free
+abbrev pub placeOf : Result (List ℕ) → (start i : ℕ) → ℕ
+placeOf (value packet) start i = 2048 * i + start
+placeOf (refused n) start i = start

@@ -66,10 +66,7 @@ judgedAs station store bus (refused n) = unchanged station store (refused n)
 judgedAs station store bus (value (refused n)) = unchanged station store (refused n)
 judgedAs station store bus (value (value judged)) = deliver station store (keyOf bus (judged .frame)) (judged .frame)
 
--- FIELD: a bus handed in is out of range; then the image is judged
-abbrev pub examined : Format → (bus : ℕ) → List ℕ → Result (Result Judged)
-examined format bus image = guarded (check Field (leb bus 1) ∷ []) (judge format image)
-
+-- FIELD: a bus handed in is out of range
 unfoldable pub receive : Station → List ℕ → (bus : ℕ) → List ℕ → After
 receive station store bus image =
     judgedAs station store bus

@@ -2,16 +2,18 @@
 use Prim.Native.Nat.{ℕ}
 use mathlib.Core.Bool.{cond}
 use mathlib.Core.List.{List, [], _∷_}
+use lib.Dec.{leb}
 use Rattle.format.specs.declared.Format.{Format}
-use Rattle.format.specs.Refusals.{Result, value, refused}
-use Rattle.frame.specs.Judge.{Frame, Judged}
+use Rattle.format.specs.declared.Refusal.the-variants.{Field}
+use Rattle.format.specs.Refusals.{Result, value, refused, check, guarded}
+use Rattle.frame.specs.Judge.{Frame, Judged, judge}
 use Rattle.stream.specs.declared.Progress.{Progress}
 use Rattle.stream.specs.Answers.{Reply}
 use Rattle.stream.specs.Step.{Next, step}
 use Rattle.slot.specs.declared.Key.{Key}
 use Rattle.slot.specs.Slots.{sameKey}
 use Rattle.station.specs.declared.Station.{Station}
-use Rattle.station.specs.Receive.{After, keyOf, examined, receive}
+use Rattle.station.specs.Receive.{After, keyOf, receive}
 
 -- "a run is a list of receiving calls on the first front, each a bus number and an image given beforehand"
 pub record Call : Type 0 where
@@ -30,6 +32,10 @@ run station store (call ∷ calls) =
     let first : After = receive station store (call .bus) (call .image) in
     let rest : Ran = run (first .station) (first .store) calls in
     record { answers = first .answer ∷ rest .answers; station = rest .station; store = rest .store }
+
+-- an image on a bus, with 9 and then 1 to 5 judged
+abbrev pub examined : Format → (bus : ℕ) → List ℕ → Result (Result Judged)
+examined format bus image = guarded (check Field (leb bus 1) ∷ []) (judge format image)
 
 -- "Its frames are the images received on its key's bus, with its key's fields, that 1 to 5 and 9 don't refuse": x is added in
 -- front of xs if the examined image is a frame of the key

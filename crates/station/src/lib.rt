@@ -8,13 +8,13 @@ use frame::judge;
 use slot::Key;
 use slot::Occupancy;
 use slot::Slot;
-use slot::Sought;
 use slot::Stream;
 use slot::first_closed;
 use slot::key_in_range;
 use slot::seek;
 use slot::sound;
 use stream::Answer;
+use stream::Area;
 use stream::Progress;
 use stream::step;
 ghost use mathlib.Core.Path.{_≡_};
@@ -25,12 +25,19 @@ ghost use Rattle.slot.specs.Slots.{closedSlot, openSlot};
 ghost use Rattle.station.specs.Stations.{newStation};
 ghost use Rattle.station.specs.Receive.{keyOf, progressIn, receive, after, afterTurn};
 ghost use Rattle.station.specs.Open as handing;
-ghost use Rattle.station.specs.Read.{reading, lengthOf, partOf};
-ghost use Rattle.station.specs.Parts.{refusedAs, frameOf, Steps, openAt};
+ghost use Rattle.station.specs.Read.{reading, lengthOf, partOf, placeOf};
+ghost use Rattle.station.specs.Parts.{refusedAs, frameOf, Steps};
 
 pub struct Station {
     pub format: Format,
     pub slots: [Slot; 16],
+}
+
+// The bytes lent to a station: an area for each slot.
+pub struct Store;
+
+impl Store {
+    pub const SIZE: usize = 32768;
 }
 
 // What receiving hands back: the next station, and the answer.
@@ -89,7 +96,7 @@ fn refused_as(format: Format, slots: [Slot; 16], size: usize, bus: u8, own: Refu
     if !sound(format, slots) {
         return Refusal::State;
     }
-    if size != 32768 {
+    if size != Store::SIZE {
         return Refusal::Store;
     }
     if bus > 1 {
@@ -115,8 +122,8 @@ fn step_at(
     let progress = progress_in(occupancy);
     let flag = head.flag;
     let start = head.start;
-    let a = 2048 * i;
-    let e = a + 2048;
+    let a = Area::SIZE * i;
+    let e = a + Area::SIZE;
     let next = step(
         format,
         progress,
@@ -168,9 +175,9 @@ pub fn take_turn(format: Format, slots: [Slot; 16], store: &mut [u8], bus: u8, i
                 fields: fields,
             };
             match seek(format, slots, key) {
-                Sought::Unsound => unchanged(first, Answer::Refused(Refusal::State)),
-                Sought::At(i) => {
-                    if store.len() != 32768 {
+                Outcome::Refused(name) => unchanged(first, Answer::Refused(name)),
+                Outcome::Value(i) => {
+                    if store.len() != Store::SIZE {
                         return unchanged(first, Answer::Refused(Refusal::Store));
                     }
                     if bus > 1 {
@@ -188,7 +195,7 @@ pub fn take_turn(format: Format, slots: [Slot; 16], store: &mut [u8], bus: u8, i
 }
 
 fn open_at(slots: [Slot; 16], i: usize) -> bool
-    ensures { λ r. ⌜ r ≡ openAt slots i ⌝ }
+    ensures { λ r. ⌜ r ≡ handing.isOpen slots i ⌝ }
 {
     if i >= 16 {
         return false;
@@ -237,11 +244,11 @@ impl Station {
         let format = self.format;
         let slots = self.slots;
         match seek(format, slots, key) {
-            Sought::Unsound => Changed {
+            Outcome::Refused(name) => Changed {
                 station: self,
-                answer: Outcome::Refused(Refusal::State),
+                answer: Outcome::Refused(name),
             },
-            Sought::At(i) => {
+            Outcome::Value(i) => {
                 if !key_in_range(format, key) {
                     return Changed {
                         station: self,
@@ -277,13 +284,15 @@ impl Station {
     {
         let format = self.format;
         let slots = self.slots;
-        if !sound(format, slots) {
+        let all_sound = sound(format, slots);
+        let is_open = open_at(slots, i);
+        if !all_sound {
             return Changed {
                 station: self,
                 answer: Outcome::Refused(Refusal::State),
             };
         }
-        if !open_at(slots, i) {
+        if !is_open {
             return Changed {
                 station: self,
                 answer: Outcome::Refused(Refusal::Closed),
@@ -308,7 +317,7 @@ impl Station {
             return Outcome::Refused(Refusal::State);
         }
         let lent = store.len();
-        if lent != 32768 {
+        if lent != Store::SIZE {
             return Outcome::Refused(Refusal::Store);
         }
         if !open_at(slots, i) {
@@ -330,11 +339,12 @@ impl Station {
     // area. Empty where read_length refuses.
     pub fn read(self, store: &[u8], i: usize) -> &[u8]
         ensures { λ r. ⌜ now r ≡ partOf (reading self (now (store .entry)) i) ⌝ }
+        ensures { λ r. ⌜ r .ptr ≡ (store .entry .ptr .0, placeOf (reading self (now (store .entry)) i) (store .entry .ptr .1) i) ⌝ }
     {
         match self.read_length(store, i) {
             Outcome::Refused(_) => &store[..0],
             Outcome::Value(h) => {
-                let from = 2048 * i;
+                let from = Area::SIZE * i;
                 let to = from + h;
                 &store[from..to]
             }

@@ -7,7 +7,7 @@ use native.Mathlib.Nat.{zero-add}
 use lib.Dec.{leb, eqb}
 use lib.ListN.{length}
 use borrow.Author.Tests.{ne-eqb, eq-eqb, le-leb, lt-leb}
-use Rattle.bytes.specs.Copy.{written}
+use Rattle.copying.specs.Copy.{written}
 use Rattle.format.specs.declared.Format.{Format}
 use Rattle.format.specs.declared.Flag.{Flag}
 use Rattle.format.specs.declared.Flag.the-variants.{Middle, Start, End, Single}

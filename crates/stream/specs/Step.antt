@@ -6,7 +6,7 @@ use mathlib.Core.Bool.{Bool, true, false}
 use mathlib.Core.List.{List, [], _∷_}
 use lib.Dec.{leb, eqb}
 use lib.ListN.{length}
-use Rattle.bytes.specs.Copy.{written}
+use Rattle.copying.specs.Copy.{written}
 use Rattle.format.specs.declared.Format.{Format}
 use Rattle.format.specs.declared.Flag.{Flag}
 use Rattle.format.specs.declared.Flag.the-variants.{Middle, Start, End, Single}
@@ -30,7 +30,8 @@ collecting Idle = false
 collecting (Collecting h) = true
 collecting (Done h) = false
 
--- "The number awaited is h divided by the piece size, modulo 64 in extended": over the piece size z and the number range m
+-- "The number awaited is h divided by the piece size, modulo 64 in extended": over the piece size z and the number range m. A sound
+-- standard stream holds 1,785 bytes at most while collecting, so that modulo 256 is no change there
 abbrev pub awaited : (z m h : ℕ) → ℕ
 awaited z m h = h / z % m
 
@@ -78,7 +79,8 @@ step format progress area frame =
     stepped (pieceSize format) (numberRange format) progress area (frame .flag) (frame .number) (frame .bytes)
 
 -- The public call is this step, over any lent bytes: STORE where the area is not 2,048 bytes, COUNT where there are over 8 packet
--- bytes, and then nothing changes. A receiving call never meets either: its store has been measured and its image judged.
+-- bytes, and then nothing changes. A receiving call never meets either: its store has been measured and its image judged. Nor does
+-- it hand on a progress that is not sound; such a one, of which document 01 says nothing here, steps as the lines above say.
 abbrev pub keptAs : Progress → List ℕ → Result Next → Next
 keptAs progress area (value next) = next
 keptAs progress area (refused n) = record { answer = refused n; progress = progress; area = area }

@@ -6,7 +6,7 @@ ghost use mathlib.Core.Path.{_≡_};
 ghost use Prim.Native.Nat.{_+_, _≤_, _<_};
 ghost use lib.Dec.{leb, eqb};
 ghost use lib.ListN.{length};
-ghost use Rattle.bytes.specs.Copy.{written};
+ghost use Rattle.copying.specs.Copy.{written};
 ghost use Rattle.stream.specs.Step.{collecting, awaited, appended, followed, stepped, offered, after};
 
 // How far a stream is. Collecting and Done hold h, the number of bytes at the head of the area.
@@ -75,7 +75,7 @@ fn hold(at: usize, bytes: &[u8], area: &mut [u8]) -> u16
     ensures { λ r. ⌜ r ≡ at + length (now (bytes .entry)) ⌝ }
     ensures { λ _. ⌜ now (area .exit) ≡ written (now (area .entry)) at (now (bytes .entry)) ⌝ }
 {
-    bytes::copy_in(area, at, bytes);
+    copying::copy_in(area, at, bytes);
     narrow(at + bytes.len())
 }
 

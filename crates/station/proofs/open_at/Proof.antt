@@ -1,13 +1,13 @@
 -- `station::open_at` meets its contract: one case for a number over 15 and one for each occupancy.
 use borrow.Author.Tests.{le-leb, le-ltb, lt-leb, lt-ltb}
-use Rattle.station.specs.Parts.{openAt}
+use Rattle.station.specs.Open.{isOpen}
 use Rattle.format.specs.Tests.{all}
 use borrow.Author.Needs.{needs}
 use Rattle.station.proofs.open_at.Statement.{statement}
 use Rattle.station.proofs.open_at.Tie as tie
 
 returns : tie.Need-returns
-unfolding openAt all
+unfolding isOpen all
 returns c = simp (le-ltb _ _ (c .if1 .taken), le-leb _ _ (c .if1 .taken))
 
 mul-slot : tie.Need-mul-slot
@@ -23,11 +23,11 @@ enum-told-2 : tie.Need-enum-told-2
 enum-told-2 c = search needs
 
 returns-2 : tie.Need-returns-2
-unfolding openAt all
+unfolding isOpen all
 returns-2 c = simp (lt-leb _ _ (c .before .before .before .if1 .left), lt-ltb _ _ (c .before .before .before .if1 .left), c .enum-told .given .1)
 
 returns-3 : tie.Need-returns-3
-unfolding openAt all
+unfolding isOpen all
 returns-3 c = simp (lt-leb _ _ (c .before .before .before .if1 .left), lt-ltb _ _ (c .before .before .before .if1 .left), c .enum-told2 .given .1)
 
 pub open-at-spec : {M : Type 1} → statement M

@@ -1,15 +1,16 @@
 -- `station::take_turn` meets its contract: each refusal in its order, else the slot of the frame's key steps (Turning).
 use mathlib.Core.Path.{ap, sym, _∙_}
 use native.Mathlib.Omega.{arith}
+use Rattle.format.specs.Refusals as answers
 use Rattle.frame.specs.declared.Verdict.{Verdict}
 use Rattle.frame.specs.Judge.{meaning}
-use Rattle.station.proofs.Turning.{sought-unsound, at-image, at-state, at-store, at-field, at-none, at-slot, Found, found}
+use Rattle.station.proofs.Turning.{at-image, at-state, at-store, at-field, at-none, at-slot, Found, found}
 use borrow.Author.Needs.{needs}
 use Rattle.station.proofs.take_turn.Statement.{statement}
 use Rattle.station.proofs.take_turn.Tie as tie
 
 -- the image is a frame, and its key has been sought among sound slots
-located : (c : tie.After-known-told3)
+located : (c : tie.After-known-told4)
     → let g = c .before .before .before .before .before .before .before .before .before .before .before .args in
     Found (g .format) (g .t2) (g .bus) (g .image .now) (c .before .before .before .before .before .head .given .0 .0) (c .before .i .given .0 .0)
 located c =
@@ -38,8 +39,8 @@ enum-known-head c = search needs
 seek-requires : tie.Need-seek-requires
 seek-requires c κs = search needs
 
-enum-told : tie.Need-enum-told
-enum-told c = search needs
+enum-known-name : tie.Need-enum-known-name
+enum-known-name c = search needs
 
 unchanged-requires-2 : tie.Need-unchanged-requires-2
 unchanged-requires-2 c κs = search needs
@@ -100,9 +101,9 @@ returns-4 c =
 
 returns-5 : tie.Need-returns-5
 returns-5 c =
-    let g = c .before .before .before .before .before .before .before .before .before .before .before .args in
-    let unsound = sought-unsound (g .format) (g .t2) _ (sym (c .before .before .before .seek .ensures) ∙ c .before .enum-told .given .1) in
-    rw (c .unchanged2 .ensures) (omega arith, at-state (g .format) (g .t2) (g .store .now) (g .bus) (g .image .now) unsound)
+    let g = c .before .before .before .before .before .before .before .before .before .before .before .before .args in
+    let e = ap answers.meaning (sym (c .before .before .name .given .1)) ∙ c .before .before .before .before .seek .ensures in
+    rw (c .unchanged2 .ensures) (omega arith, at-state (g .format) (g .t2) (g .store .now) (g .bus) (g .image .now) _ (c .before .before .name .given .0 .0) e)
 
 same-length : tie.Need-same-length
 same-length c = search needs
@@ -128,7 +129,7 @@ take-turn-spec =
     unchanged-requires
     enum-known-head
     seek-requires
-    enum-told
+    enum-known-name
     unchanged-requires-2
     enum-known-i
     unchanged-requires-3

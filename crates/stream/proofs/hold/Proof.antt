@@ -1,6 +1,6 @@
 -- `stream::hold` meets its contract: the copy ends within the area, so it is whole.
 use Prim.Native.Nat.{_+_, _≤_}
-use Rattle.bytes.proofs.Copying.{all-copied}
+use Rattle.copying.proofs.Copying.{all-copied}
 use borrow.Author.Needs.{needs}
 use lib.ListN.{length}
 use mathlib.Core.Path.{_∙_}

@@ -11,22 +11,22 @@ use Rattle.station.proofs.Station.close.Tie as tie
 -- an open slot has a number below 16
 below : (c : tie.Else2) → c .before .before .before .before .before .args .i < 16
 below c =
-    let g = c .before .before .before .before .before .args in open-below (g .t1 .slots) (g .i) (sym (c .before .open-at .ensures) ∙ not-false _ (c .if2 .left))
+    let g = c .before .before .before .before .before .args in open-below (g .t1 .slots) (g .i) (sym (c .before .before .open-at .ensures) ∙ not-false _ (c .if2 .left))
 
 sound-requires : tie.Need-sound-requires
 sound-requires c κs = search needs
 
-returns : tie.Need-returns
-returns c =
-    let g = c .before .before .before .args in close-state (g .t1) (g .i) (sym (c .before .sound .ensures) ∙ not-true _ (c .if1 .taken))
-
 open-at-requires : tie.Need-open-at-requires
 open-at-requires c κs = search needs
+
+returns : tie.Need-returns
+returns c =
+    let g = c .before .before .before .before .args in close-state (g .t1) (g .i) (sym (c .before .before .sound .ensures) ∙ not-true _ (c .if1 .taken))
 
 returns-2 : tie.Need-returns-2
 returns-2 c =
     let g = c .before .before .before .before .before .args in
-    close-closed (g .t1) (g .i) (sym (c .before .before .before .sound .ensures) ∙ not-false _ (c .before .before .if1 .left)) (sym (c .before .open-at .ensures) ∙ not-true _ (c .if2 .taken))
+    close-closed (g .t1) (g .i) (sym (c .before .before .before .sound .ensures) ∙ not-false _ (c .before .if1 .left)) (sym (c .before .before .open-at .ensures) ∙ not-true _ (c .if2 .taken))
 
 closed-slot-requires : tie.Need-closed-slot-requires
 closed-slot-requires c κs = search needs
@@ -41,15 +41,15 @@ returns-3 : tie.Need-returns-3
 returns-3 c =
     let g = c .before .before .before .before .before .before .args in
     rw (c .closed-slot .ensures)
-    (close-open (g .t1) (g .i) (sym (c .before .before .before .before .sound .ensures) ∙ not-false _ (c .before .before .before .if1 .left)) (sym (c .before .before .open-at .ensures) ∙ not-false _ (c .before .if2 .left)))
+    (close-open (g .t1) (g .i) (sym (c .before .before .before .before .sound .ensures) ∙ not-false _ (c .before .before .if1 .left)) (sym (c .before .before .before .open-at .ensures) ∙ not-false _ (c .before .if2 .left)))
 
 pub close-spec : {M : Type 1} → statement M
 close-spec =
     tie.close
     (tie.spec
     sound-requires
-    returns
     open-at-requires
+    returns
     returns-2
     closed-slot-requires
     mul-slot

@@ -1,27 +1,29 @@
 -- `Station::open` meets its contract: each refusal in its order, else the lowest closed slot (Handing).
-use mathlib.Core.Path.{_≡_, sym, _∙_}
+use mathlib.Core.Path.{_≡_, sym, _∙_, ap}
 use mathlib.Core.Bool.{true}
 use native.Mathlib.Omega.{arith}
 use borrow.Author.Tests.{not-true, not-false}
+use Rattle.format.specs.Refusals.{meaning}
 use Rattle.slot.specs.Slots.{hasKey, place}
 use Rattle.station.specs.Stations.{soundStation}
-use Rattle.station.proofs.Turning.{sought-unsound, sought-at}
+use Rattle.station.proofs.Turning.{sought-at}
 use Rattle.station.proofs.Handing.{open-state, open-field, open-taken, open-full, open-lowest}
 use borrow.Author.Needs.{needs}
 use Rattle.station.proofs.Station.open.Statement.{statement}
 use Rattle.station.proofs.Station.open.Tie as tie
 
 -- the slots are sound, and the key is open at the place sought or nowhere
-located : (c : tie.After-known-told)
+located : (c : tie.After-known-told2)
     → let g = c .before .before .before .before .before .args in (soundStation (g .t1) ≡ true) × (place (hasKey (g .key)) (g .t1 .slots) ≡ c .before .i .given .0 .0)
 located c =
-    let g = c .before .before .before .before .before .args in sought-at (g .t1 .format) (g .t1 .slots) (g .key) _ (sym (c .before .before .before .seek .ensures) ∙ c .before .i .given .1)
+    let g = c .before .before .before .before .before .args in
+    sought-at (g .t1 .format) (g .t1 .slots) (g .key) _ (sym (c .before .before .before .seek .ensures) ∙ ap meaning (c .before .i .given .1))
 
 seek-requires : tie.Need-seek-requires
 seek-requires c κs = search needs
 
-enum-told : tie.Need-enum-told
-enum-told c = search needs
+enum-known-name : tie.Need-enum-known-name
+enum-known-name c = search needs
 
 enum-known-i : tie.Need-enum-known-i
 enum-known-i c = search needs
@@ -62,8 +64,7 @@ element-set-from-slot c = search needs
 
 returns-4 : tie.Need-returns-4
 returns-4 c =
-    let g = c .before .before .before .before .args in
-    open-state (g .t1) (g .key) (sought-unsound (g .t1 .format) (g .t1 .slots) (g .key) (sym (c .before .before .seek .ensures) ∙ c .enum-told .given .1))
+    let g = c .before .before .before .before .before .args in open-state (g .t1) (g .key) (c .before .name .given .0 .0) (ap meaning (sym (c .before .name .given .1)) ∙ c .before .before .before .seek .ensures)
 
 returns-5 : tie.Need-returns-5
 returns-5 c =
@@ -78,7 +79,7 @@ open-spec =
     tie.close
     (tie.spec
     seek-requires
-    enum-told
+    enum-known-name
     enum-known-i
     key-in-range-requires
     returns

@@ -6,14 +6,14 @@ use native.Mathlib.Omega.{arith}
 use borrow.Author.Tests.{not-true, not-false}
 use Rattle.station.specs.Stations.{soundStation}
 use Rattle.station.specs.Read.{isDone}
-use Rattle.station.specs.Parts.{openAt}
+use Rattle.station.specs.Open.{isOpen}
 use Rattle.station.proofs.Handing.{open-below, read-state, read-store, read-closed, read-none, readable, read-done}
 use borrow.Author.Needs.{needs}
 use Rattle.station.proofs.Station.read_length.Statement.{statement}
 use Rattle.station.proofs.Station.read_length.Tie as tie
 
 -- the station is sound and the slot open
-opened : (c : tie.Else3) → let g = c .before .before .before .before .before .before .before .args in (soundStation (g .self) ≡ true) × (openAt (g .self .slots) (g .i) ≡ true)
+opened : (c : tie.Else3) → let g = c .before .before .before .before .before .before .before .args in (soundStation (g .self) ≡ true) × (isOpen (g .self .slots) (g .i) ≡ true)
 opened c = (
   sym (c .before .before .before .before .sound .ensures) ∙ not-false _ (c .before .before .before .if1 .left),
   sym (c .before .open-at .ensures) ∙ not-false _ (c .if3 .left),

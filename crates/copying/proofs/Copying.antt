@@ -7,7 +7,7 @@ use native.Mathlib.Omega.{arith}
 use lib.ListN.{length, length-append, length-drop}
 use lib.Seq.{paste, length-take-le, take-length}
 use borrow.Author.Tests.{le-leb, lt-leb}
-use Rattle.bytes.specs.Copy.{written, within, copied}
+use Rattle.copying.specs.Copy.{written, within, copied}
 
 module _ (list : List ℕ) (at : ℕ) (bytes : List ℕ) where
   -- they end within: all of them are written, and the length stays

@@ -1,6 +1,6 @@
 // Copying into lent bytes: the one function that writes packet bytes.
 ghost use mathlib.Core.Path.{_≡_};
-ghost use Rattle.bytes.specs.Copy.{within, copied};
+ghost use Rattle.copying.specs.Copy.{within, copied};
 
 // Writes bytes over the target from place at on and answers true, or where they do not end within
 // the target writes nothing and answers false.

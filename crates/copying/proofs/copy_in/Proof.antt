@@ -1,4 +1,4 @@
--- `bytes::copy_in` meets its contract: the first j bytes are pasted after j rounds, and the target keeps its length (Copying).
+-- `copying::copy_in` meets its contract: the first j bytes are pasted after j rounds, and the target keeps its length (Copying).
 use Prim.Native.Nat.{_+_, _-_, _≤_, _<_}
 use mathlib.Core.Path.{_≡_, refl, sym}
 use native.Mathlib.Nat.{le-antisymm}
@@ -7,9 +7,9 @@ use native.Mathlib.Omega.{arith}
 use borrow.Author.Needs.{needs}
 use lib.ListN.{length, length-set}
 use lib.Seq.{paste, paste-zero, paste-suc}
-use Rattle.bytes.proofs.Copying.{fits, all-copied, past, none-copied, pasted}
-use Rattle.bytes.proofs.copy_in.Statement.{statement}
-use Rattle.bytes.proofs.copy_in.Tie as tie
+use Rattle.copying.proofs.Copying.{fits, all-copied, past, none-copied, pasted}
+use Rattle.copying.proofs.copy_in.Statement.{statement}
+use Rattle.copying.proofs.copy_in.Tie as tie
 
 abbrev Inv-loop : tie.InvT-loop
 Inv-loop target₀ at bytes n room j₀ target j =
