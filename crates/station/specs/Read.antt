@@ -47,8 +47,8 @@ abbrev pub partOf : Result (List ℕ) → List ℕ
 partOf (value packet) = packet
 partOf (refused n) = []
 
--- where that part begins, in a store that begins at `start`: at the slot's area. A refusal's empty part is the store's first none,
--- which document 01 leaves free
+-- where that part begins, in a store that begins at `start`: where the slot's area does. A refusal's empty part stands at the
+-- store's beginning, which document 01 leaves free
 abbrev pub placeOf : Result (List ℕ) → (start i : ℕ) → ℕ
 placeOf (value packet) start i = 2048 * i + start
 placeOf (refused n) start i = start

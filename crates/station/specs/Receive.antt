@@ -66,7 +66,7 @@ judgedAs station store bus (refused n) = unchanged station store (refused n)
 judgedAs station store bus (value (refused n)) = unchanged station store (refused n)
 judgedAs station store bus (value (value judged)) = deliver station store (keyOf bus (judged .frame)) (judged .frame)
 
--- FIELD: a bus handed in is out of range
+-- STATE: station handed in not sound. STORE: store not 32,768 bytes. FIELD: a bus handed in is out of range. Then the image is judged
 unfoldable pub receive : Station → List ℕ → (bus : ℕ) → List ℕ → After
 receive station store bus image =
     judgedAs station store bus
