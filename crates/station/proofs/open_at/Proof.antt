@@ -1,5 +1,5 @@
 -- `station::open_at` meets its contract: one case for a number over 15 and one for each occupancy.
-use borrow.Author.Tests.{le-leb, le-ltb, lt-leb, lt-ltb}
+use borrow.Author.Tests.{le-ltb, lt-ltb}
 use Rattle.station.specs.Open.{isOpen}
 use Rattle.format.specs.Tests.{all}
 use borrow.Author.Needs.{needs}
@@ -8,7 +8,7 @@ use Rattle.station.proofs.open_at.Tie as tie
 
 returns : tie.Need-returns
 unfolding isOpen all
-returns c = simp (le-ltb _ _ (c .if1 .taken), le-leb _ _ (c .if1 .taken))
+returns c = simp (le-ltb _ _ (c .if1 .taken))
 
 mul-slot : tie.Need-mul-slot
 mul-slot c = search needs
@@ -24,11 +24,11 @@ enum-told-2 c = search needs
 
 returns-2 : tie.Need-returns-2
 unfolding isOpen all
-returns-2 c = simp (lt-leb _ _ (c .before .before .before .if1 .left), lt-ltb _ _ (c .before .before .before .if1 .left), c .enum-told .given .1)
+returns-2 c = simp (lt-ltb _ _ (c .before .before .before .if1 .left), c .enum-told .given .1)
 
 returns-3 : tie.Need-returns-3
 unfolding isOpen all
-returns-3 c = simp (lt-leb _ _ (c .before .before .before .if1 .left), lt-ltb _ _ (c .before .before .before .if1 .left), c .enum-told2 .given .1)
+returns-3 c = simp (lt-ltb _ _ (c .before .before .before .if1 .left), c .enum-told2 .given .1)
 
 pub open-at-spec : {M : Type 1} → statement M
 open-at-spec =

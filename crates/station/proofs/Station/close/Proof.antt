@@ -11,7 +11,9 @@ use Rattle.station.proofs.Station.close.Tie as tie
 -- an open slot has a number below 16
 below : (c : tie.Else2) → c .before .before .before .before .before .args .i < 16
 below c =
-    let g = c .before .before .before .before .before .args in open-below (g .t1 .slots) (g .i) (sym (c .before .before .open-at .ensures) ∙ not-false _ (c .if2 .left))
+    let g = c .before .before .before .before .before .args in
+    let o = c .before .before .open-at in
+    open-below (g .t1 .slots) (g .i) (sym (o .ensures) ∙ not-false (o .result) (search (c .if2 .left, c .before .if1 .left)))
 
 sound-requires : tie.Need-sound-requires
 sound-requires c κs = search needs
