@@ -1,0 +1,4 @@
+mod Buses
+mod Moves
+mod Claims
+mod Answers

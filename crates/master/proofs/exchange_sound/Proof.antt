@@ -1,0 +1,27 @@
+-- `master::exchange_sound` meets its contract: the tests are those of the definition.
+use Rattle.format.specs.Tests.{all}
+use Rattle.master.specs.Masters.{exchangeSound}
+use borrow.Author.Needs.{needs}
+use Rattle.master.proofs.exchange_sound.Statement.{statement}
+use Rattle.master.proofs.exchange_sound.Tie as tie
+
+enum-told : tie.Need-enum-told
+enum-told c = search needs
+
+enum-known-activity : tie.Need-enum-known-activity
+enum-known-activity c = search needs
+
+total-sends-requires : tie.Need-total-sends-requires
+total-sends-requires c κs = search needs
+
+returns : tie.Need-returns
+unfolding exchangeSound all
+returns c = simp (c .enum-told .given .1)
+
+returns-2 : tie.Need-returns-2
+unfolding exchangeSound all
+returns-2 c = simp (c .before .before .before .before .before .activity .given .1, c .before .before .before .total-sends .ensures)
+
+pub exchange-sound-spec : {M : Type 1} → statement M
+exchange-sound-spec =
+    tie.close (tie.spec enum-told enum-known-activity total-sends-requires returns returns-2)

@@ -1,0 +1,4 @@
+pub mod Masters
+pub mod Exchanges
+pub mod Runs
+pub mod Claims
