@@ -23,7 +23,7 @@ impl Filter {
     {
         let code = self.code;
         let mask = self.mask;
-        (id ^ code) | mask == mask
+        ((id ^ code) | mask) == mask
     }
 }
 
