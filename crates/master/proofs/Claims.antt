@@ -19,7 +19,7 @@ use Rattle.master.specs.declared.Exchange.{Exchange}
 use Rattle.master.specs.declared.Activity.{Activity}
 use Rattle.master.specs.declared.Activity.the-variants.{Idle, UnderWay}
 use Rattle.master.specs.declared.Master.{Master}
-use Rattle.master.specs.Masters.{totalSends, sendsOnFirst, chosenBus, other, switched, busesInRange, chosenSound, exchangeSound, sound}
+use Rattle.master.specs.Masters.{planOf, chosenBus, other, switched, busesInRange, chosenSound, exchangeSound, sound}
 use Rattle.master.specs.Exchanges.{Told, send, done, gaveUp, Step, Handed, given, handed, underWay, sent, ended, starting, counts, replying, chosenAfter, expired, timingOut}
 use Rattle.master.specs.Runs.{Call, start, reply, timeout, call, answers, run, sentOn, latest, unlessRefused, notRefused, withoutRefusals}
 use Rattle.master.specs.Claims.{NewIsSound, StaysSound, RefusedKeeps, RefusedPlayNoPart, Unanswered, LatestSend, LateReply}
@@ -45,13 +45,13 @@ switched-sound chosen node s =
 
 after-sound : (chosen : List ℕ) (exchange : Exchange) → chosenSound chosen ≡ true → chosenSound (chosenAfter chosen exchange) ≡ true
 unfolding chosenAfter
-after-sound chosen exchange s = go (eqb (exchange .sends) (sendsOnFirst (exchange .kind)))
+after-sound chosen exchange s = go (eqb (exchange .sends) (planOf (exchange .kind) .first))
   where
     go : (b : Bool) → chosenSound (cond b (switched chosen (exchange .node)) chosen) ≡ true
     go true = switched-sound chosen (exchange .node) s
     go false = s
 
-made-sound : (chosen : List ℕ) (exchange : Exchange) → chosenSound chosen ≡ true → exchange .node ≤ 63 → 1 ≤ exchange .sends → exchange .sends ≤ totalSends (exchange .kind)
+made-sound : (chosen : List ℕ) (exchange : Exchange) → chosenSound chosen ≡ true → exchange .node ≤ 63 → 1 ≤ exchange .sends → exchange .sends ≤ planOf (exchange .kind) .total
     → sound (record { chosen = chosen; activity = UnderWay exchange }) ≡ true
 unfolding sound exchangeSound
 made-sound chosen exchange s n l h = from-each _ (s, (from-each _ (omega tests, (omega tests, (omega tests, tt))), tt))
@@ -68,7 +68,7 @@ exchange-sound : (master : Master) → sound master ≡ true → exchangeSound (
 unfolding sound
 exchange-sound master s = each _ s .1 .0
 
-one-send : (kind : Kind) → 1 ≤ totalSends kind
+one-send : (kind : Kind) → 1 ≤ planOf kind .total
 one-send Poll = omega arith
 one-send DataBlock = omega arith
 one-send Command = omega arith
@@ -76,14 +76,14 @@ one-send Command = omega arith
 expired-sound : (chosen : List ℕ) (activity : Activity) → chosenSound chosen ≡ true → exchangeSound activity ≡ true → sound (expired chosen activity .next) ≡ true
 unfolding expired exchangeSound
 expired-sound chosen Idle s e = idle-sound chosen s
-expired-sound chosen (UnderWay x) s e = go (ltb (x .sends) (totalSends (x .kind))) refl
+expired-sound chosen (UnderWay x) s e = go (ltb (x .sends) (planOf (x .kind) .total)) refl
   where
-    go : (b : Bool) → ltb (x .sends) (totalSends (x .kind)) ≡ b
+    go : (b : Bool) → ltb (x .sends) (planOf (x .kind) .total) ≡ b
         → sound (cond b (sent (chosenAfter chosen x) (record { kind = x .kind; node = x .node; sends = x .sends + 1 })) (ended gaveUp (chosenAfter chosen x)) .next) ≡ true
     go true t =
         let parts = each _ e in
         let n = leb-true _ _ (parts .0) in
-        let l : x .sends < totalSends (x .kind) = ltb-true _ _ t in
+        let l : x .sends < planOf (x .kind) .total = ltb-true _ _ t in
         made-sound _ _ (after-sound chosen x s) n (omega arith) (omega arith)
     go false t = idle-sound _ (after-sound chosen x s)
 
@@ -152,7 +152,7 @@ ends-there bus answer chosen exchange e = let z : _≡_ {A = ℕ} 0 1 = cc in ab
 expires-there : (bus : ℕ) (chosen : List ℕ) (activity : Activity) → After bus (given (expired chosen activity))
 unfolding expired
 expires-there bus chosen Idle = ends-there bus gaveUp chosen
-expires-there bus chosen (UnderWay x) = go (ltb (x .sends) (totalSends (x .kind)))
+expires-there bus chosen (UnderWay x) = go (ltb (x .sends) (planOf (x .kind) .total))
   where
     go : (b : Bool)
         → After bus (given (cond b (sent (chosenAfter chosen x) (record { kind = x .kind; node = x .node; sends = x .sends + 1 })) (ended gaveUp (chosenAfter chosen x))))
@@ -216,7 +216,7 @@ module _ (master : Master) (node : ℕ) (s : sound master ≡ true) (i : master 
   started : (kind : Kind) → given (sent (master .chosen) (record { kind = kind; node = node; sends = 1 })) ≡ call master (start kind node)
   started kind = start-sends master kind node s n (ap underWay i)
 
-  waits : (chosen : List ℕ) (kind : Kind) (sends : ℕ) → chosenSound chosen ≡ true → 1 ≤ sends → sends ≤ totalSends kind
+  waits : (chosen : List ℕ) (kind : Kind) (sends : ℕ) → chosenSound chosen ≡ true → 1 ≤ sends → sends ≤ planOf kind .total
       → given (expired chosen (UnderWay (record { kind = kind; node = node; sends = sends }))) ≡ call (on chosen kind node sends) timeout
   waits chosen kind sends c l h = timeout-expires (on chosen kind node sends) (made-sound chosen _ c n l h) refl
 

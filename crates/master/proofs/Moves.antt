@@ -15,7 +15,7 @@ use Rattle.master.specs.declared.Kind.{Kind}
 use Rattle.master.specs.declared.Exchange.{Exchange}
 use Rattle.master.specs.declared.Activity.the-variants.{Idle, UnderWay}
 use Rattle.master.specs.declared.Master.{Master}
-use Rattle.master.specs.Masters.{totalSends, sendsOnFirst, switched, exchangeSound, sound}
+use Rattle.master.specs.Masters.{planOf, switched, exchangeSound, sound}
 use Rattle.master.specs.Exchanges.{Handed, given, handed, gaveUp, done, underWay, sent, ended, starting, counts, replying, chosenAfter, expired, timingOut}
 
 abbrev pub refuses : Master → ℕ → Handed
@@ -24,20 +24,20 @@ refuses master n = record { answer = refused n; master = master }
 -- ---- the chosen buses after a timeout
 
 module _ (chosen : List ℕ) (exchange : Exchange) where
-  pub stays : exchange .sends ≢ sendsOnFirst (exchange .kind) → chosen ≡ chosenAfter chosen exchange
+  pub stays : exchange .sends ≢ planOf (exchange .kind) .first → chosen ≡ chosenAfter chosen exchange
   unfolding chosenAfter
   stays h = rw (ne-eqb _ _ h)
 
-  pub switches : exchange .sends ≡ sendsOnFirst (exchange .kind) → switched chosen (exchange .node) ≡ chosenAfter chosen exchange
+  pub switches : exchange .sends ≡ planOf (exchange .kind) .first → switched chosen (exchange .node) ≡ chosenAfter chosen exchange
   unfolding chosenAfter
   switches h = rw (eq-eqb _ _ h)
 
-  pub goes-on : exchange .sends < totalSends (exchange .kind)
+  pub goes-on : exchange .sends < planOf (exchange .kind) .total
       → sent (chosenAfter chosen exchange) (record { kind = exchange .kind; node = exchange .node; sends = exchange .sends + 1 }) ≡ expired chosen (UnderWay exchange)
   unfolding expired
   goes-on h = rw (lt-ltb _ _ h)
 
-  pub gives-up : totalSends (exchange .kind) ≤ exchange .sends → ended gaveUp (chosenAfter chosen exchange) ≡ expired chosen (UnderWay exchange)
+  pub gives-up : planOf (exchange .kind) .total ≤ exchange .sends → ended gaveUp (chosenAfter chosen exchange) ≡ expired chosen (UnderWay exchange)
   unfolding expired
   gives-up h = rw (le-ltb _ _ h)
 

@@ -19,7 +19,7 @@ use Rattle.master.specs.declared.Master.{Master}
 use Rattle.master.specs.declared.Answer.{Answer}
 use Rattle.master.specs.declared.Answer.the-variants as answered
 use Rattle.master.specs.declared.Moved.{Moved}
-use Rattle.master.specs.Masters.{totalSends, sendsOnFirst, awaited, chosenBus, switched, sound}
+use Rattle.master.specs.Masters.{planOf, chosenBus, switched, sound}
 
 -- what a call that is not refused answers
 pub data Told : Type 0 where
@@ -75,7 +75,7 @@ counts chosen bus node function Idle = false
 counts chosen bus node function (UnderWay exchange) =
     all
     (eqb node (exchange .node)
-    ∷ eqb function (awaited (exchange .kind))
+    ∷ eqb function (planOf (exchange .kind) .awaited)
     ∷ eqb bus (chosenBus chosen (exchange .node))
     ∷ [])
 
@@ -94,13 +94,13 @@ replying master bus node function =
 -- the chosen buses after a timeout: the other bus for the node if the sends on the first are used up
 unfoldable pub chosenAfter : List ℕ → Exchange → List ℕ
 chosenAfter chosen exchange =
-    cond (eqb (exchange .sends) (sendsOnFirst (exchange .kind))) (switched chosen (exchange .node)) chosen
+    cond (eqb (exchange .sends) (planOf (exchange .kind) .first)) (switched chosen (exchange .node)) chosen
 
 -- the next send, or, with the sends used up, gives up; where no exchange is under way nothing is sent, and IDLE comes first
 unfoldable pub expired : List ℕ → Activity → Step
 expired chosen Idle = ended gaveUp chosen
 expired chosen (UnderWay exchange) =
-    cond (ltb (exchange .sends) (totalSends (exchange .kind)))
+    cond (ltb (exchange .sends) (planOf (exchange .kind) .total))
     (sent (chosenAfter chosen exchange)
     (record { kind = exchange .kind; node = exchange .node; sends = exchange .sends + 1 }))
     (ended gaveUp (chosenAfter chosen exchange))

@@ -10,6 +10,7 @@ use lib.ListN.{length, getD, set, replicate}
 use Rattle.format.specs.Tests.{all}
 use Rattle.master.specs.declared.Kind.{Kind}
 use Rattle.master.specs.declared.Kind.the-variants.{Poll, DataBlock, Command}
+use Rattle.master.specs.declared.Plan.{Plan}
 use Rattle.master.specs.declared.Activity.{Activity}
 use Rattle.master.specs.declared.Activity.the-variants.{Idle, UnderWay}
 use Rattle.master.specs.declared.Master.{Master}
@@ -17,22 +18,11 @@ use Rattle.master.specs.declared.Master.{Master}
 abbrev pub newMaster : Master
 newMaster = record { chosen = replicate 64 0; activity = Idle }
 
-abbrev pub totalSends : Kind → ℕ
-totalSends Poll = 1
-totalSends DataBlock = 2
-totalSends Command = 3
-
--- the sends on the first bus, that chosen at the start
-abbrev pub sendsOnFirst : Kind → ℕ
-sendsOnFirst Poll = 1
-sendsOnFirst DataBlock = 2
-sendsOnFirst Command = 2
-
--- the function that the reply has
-abbrev pub awaited : Kind → ℕ
-awaited Poll = 2
-awaited DataBlock = 4
-awaited Command = 4
+-- how an exchange of a kind goes: the sends on the first bus, that chosen at the start; all its sends; the function awaited
+abbrev pub planOf : Kind → Plan
+planOf Poll = record { first = 1; total = 1; awaited = 2 }
+planOf DataBlock = record { first = 2; total = 2; awaited = 4 }
+planOf Command = record { first = 2; total = 3; awaited = 4 }
 
 -- the bus chosen for a node
 unfoldable pub chosenBus : List ℕ → ℕ → ℕ
@@ -57,7 +47,7 @@ chosenSound chosen = all (eqb (length chosen) 64 ∷ busesInRange chosen ∷ [])
 unfoldable pub exchangeSound : Activity → Bool
 exchangeSound Idle = true
 exchangeSound (UnderWay exchange) =
-    all (leb (exchange .node) 63 ∷ leb 1 (exchange .sends) ∷ leb (exchange .sends) (totalSends (exchange .kind)) ∷ [])
+    all (leb (exchange .node) 63 ∷ leb 1 (exchange .sends) ∷ leb (exchange .sends) (planOf (exchange .kind) .total) ∷ [])
 
 unfoldable pub sound : Master → Bool
 sound master = all (chosenSound (master .chosen) ∷ exchangeSound (master .activity) ∷ [])

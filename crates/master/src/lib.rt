@@ -5,7 +5,7 @@ ghost use mathlib.Core.Path.{_≡_};
 ghost use Prim.Native.Nat.{_≤_};
 ghost use Rattle.master.specs.declared.Activity.the-variants.{Idle, UnderWay};
 ghost use Rattle.master.specs.declared.Answer.the-variants as answered;
-ghost use Rattle.master.specs.Masters.{newMaster, totalSends, sendsOnFirst, awaited, other, chosenSound, exchangeSound, sound};
+ghost use Rattle.master.specs.Masters.{newMaster, planOf, other, chosenSound, exchangeSound, sound};
 ghost use Rattle.master.specs.Exchanges as exchanges;
 
 // What is sent to a node.
@@ -47,36 +47,33 @@ pub struct Moved {
     pub answer: Answer,
 }
 
-// How often an exchange of this kind is sent at most.
-fn total_sends(kind: Kind) -> u8
-    ensures { λ r. ⌜ r ≡ totalSends kind ⌝ }
-{
-    match kind {
-        Kind::Poll => 1,
-        Kind::DataBlock => 2,
-        Kind::Command => 3,
-    }
+// How an exchange of a kind goes: how often it is sent on the bus that is chosen at its start, how
+// often in all, and the function that answers it.
+pub struct Plan {
+    pub first: u8,
+    pub total: u8,
+    pub awaited: u8,
 }
 
-// How many of the sends are on the bus that is chosen at the start.
-fn sends_on_first(kind: Kind) -> u8
-    ensures { λ r. ⌜ r ≡ sendsOnFirst kind ⌝ }
+fn plan_of(kind: Kind) -> Plan
+    ensures { λ r. ⌜ r ≡ planOf kind ⌝ }
 {
     match kind {
-        Kind::Poll => 1,
-        Kind::DataBlock => 2,
-        Kind::Command => 2,
-    }
-}
-
-// The function of a reply.
-fn awaited_function(kind: Kind) -> u8
-    ensures { λ r. ⌜ r ≡ awaited kind ⌝ }
-{
-    match kind {
-        Kind::Poll => 2,
-        Kind::DataBlock => 4,
-        Kind::Command => 4,
+        Kind::Poll => Plan {
+            first: 1,
+            total: 1,
+            awaited: 2,
+        },
+        Kind::DataBlock => Plan {
+            first: 2,
+            total: 2,
+            awaited: 4,
+        },
+        Kind::Command => Plan {
+            first: 2,
+            total: 3,
+            awaited: 4,
+        },
     }
 }
 
@@ -100,8 +97,8 @@ fn exchange_sound(activity: Activity) -> bool
         Activity::Idle => true,
         Activity::UnderWay(exchange) => {
             let kind = exchange.kind;
-            let total = total_sends(kind);
-            (exchange.node <= 63) & (exchange.sends >= 1) & (exchange.sends <= total)
+            let plan = plan_of(kind);
+            (exchange.node <= 63) & (exchange.sends >= 1) & (exchange.sends <= plan.total)
         }
     }
 }
@@ -176,7 +173,8 @@ fn chosen_after(mut chosen: [u8; 64], exchange: Exchange) -> [u8; 64]
     ensures { λ r. ⌜ r ≡ exchanges.chosenAfter chosen exchange ⌝ }
 {
     let kind = exchange.kind;
-    if exchange.sends != sends_on_first(kind) {
+    let plan = plan_of(kind);
+    if exchange.sends != plan.first {
         return chosen;
     }
     let at = exchange.node as usize;
@@ -192,7 +190,8 @@ fn expire(chosen: [u8; 64], exchange: Exchange) -> Moved
 {
     let next = chosen_after(chosen, exchange);
     let kind = exchange.kind;
-    if exchange.sends < total_sends(kind) {
+    let plan = plan_of(kind);
+    if exchange.sends < plan.total {
         let again = Exchange {
             kind: kind,
             node: exchange.node,
@@ -210,10 +209,10 @@ fn counts(chosen: [u8; 64], exchange: Exchange, bus: u8, node: u8, function: u8)
     ensures { λ r. ⌜ r ≡ exchanges.counts chosen bus node function (UnderWay exchange) ⌝ }
 {
     let kind = exchange.kind;
-    let expected = awaited_function(kind);
+    let plan = plan_of(kind);
     let at = exchange.node as usize;
     let latest = chosen[at];
-    (node == exchange.node) & (function == expected) & (bus == latest)
+    (node == exchange.node) & (function == plan.awaited) & (bus == latest)
 }
 
 impl Master {

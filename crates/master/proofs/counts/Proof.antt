@@ -6,8 +6,8 @@ use borrow.Author.Needs.{needs}
 use Rattle.master.proofs.counts.Statement.{statement}
 use Rattle.master.proofs.counts.Tie as tie
 
-awaited-function-requires : tie.Need-awaited-function-requires
-awaited-function-requires c κs = search needs
+plan-of-requires : tie.Need-plan-of-requires
+plan-of-requires c κs = search needs
 
 cast-at : tie.Need-cast-at
 cast-at c = search needs
@@ -17,7 +17,7 @@ array-read-latest c = search needs
 
 returns : tie.Need-returns
 unfolding counts all chosenBus
-returns c = simp (c .before .before .awaited-function .ensures)
+returns c = rw (c .before .before .before .plan-of .ensures)
 
 pub counts-spec : {M : Type 1} → statement M
-counts-spec = tie.close (tie.spec awaited-function-requires cast-at array-read-latest returns)
+counts-spec = tie.close (tie.spec plan-of-requires cast-at array-read-latest returns)

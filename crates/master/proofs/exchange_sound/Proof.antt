@@ -11,17 +11,17 @@ enum-told c = search needs
 enum-known-activity : tie.Need-enum-known-activity
 enum-known-activity c = search needs
 
-total-sends-requires : tie.Need-total-sends-requires
-total-sends-requires c κs = search needs
+plan-of-requires : tie.Need-plan-of-requires
+plan-of-requires c κs = search needs
 
 returns : tie.Need-returns
 unfolding exchangeSound all
-returns c = simp (c .enum-told .given .1)
+returns c = rw (c .enum-told .given .1)
 
 returns-2 : tie.Need-returns-2
 unfolding exchangeSound all
-returns-2 c = simp (c .before .before .before .before .before .activity .given .1, c .before .before .before .total-sends .ensures)
+returns-2 c = rw (c .before .before .before .before .plan-of .ensures, c .before .before .before .before .before .before .activity .given .1)
 
 pub exchange-sound-spec : {M : Type 1} → statement M
 exchange-sound-spec =
-    tie.close (tie.spec enum-told enum-known-activity total-sends-requires returns returns-2)
+    tie.close (tie.spec enum-told enum-known-activity plan-of-requires returns returns-2)

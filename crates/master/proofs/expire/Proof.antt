@@ -1,6 +1,7 @@
 -- `master::expire` meets its contract: with sends left the next goes out, else the exchange ends.
 use mathlib.Core.Path.{_∙_, ap}
 use native.Mathlib.Omega.{arith}
+use Rattle.master.specs.declared.Plan.{Plan}
 use Rattle.master.specs.Exchanges.{given, after}
 use Rattle.master.proofs.Moves.{goes-on, gives-up}
 use borrow.Author.Needs.{needs}
@@ -10,8 +11,8 @@ use Rattle.master.proofs.expire.Tie as tie
 chosen-after-requires : tie.Need-chosen-after-requires
 chosen-after-requires c κs = search needs
 
-total-sends-requires : tie.Need-total-sends-requires
-total-sends-requires c κs = search needs
+plan-of-requires : tie.Need-plan-of-requires
+plan-of-requires c κs = search needs
 
 add-t8 : tie.Need-add-t8
 add-t8 c = search needs
@@ -21,9 +22,9 @@ send-requires c κs = search needs
 
 returns : tie.Need-returns
 returns c =
-    let g = c .before .before .before .before .before .before .args in
-    let n = c .before .before .before .before .before .chosen-after .ensures in
-    let e = c .before .before .before .before .total-sends .ensures in
+    let g = c .before .before .before .before .before .before .before .args in
+    let n = c .before .before .before .before .before .before .chosen-after .ensures in
+    let e = ap (λ (p : Plan). p .total) (c .before .before .before .before .before .plan-of .ensures) in
     c .send .ensures ∙ rw n (ap given (goes-on (g .chosen) (g .exchange) (omega arith)))
 
 end-requires : tie.Need-end-requires
@@ -31,9 +32,9 @@ end-requires c κs = search needs
 
 returns-2 : tie.Need-returns-2
 returns-2 c =
-    let g = c .before .before .before .before .before .args in
-    let n = c .before .before .before .before .chosen-after .ensures in
-    let e = c .before .before .before .total-sends .ensures in
+    let g = c .before .before .before .before .before .before .args in
+    let n = c .before .before .before .before .before .chosen-after .ensures in
+    let e = ap (λ (p : Plan). p .total) (c .before .before .before .before .plan-of .ensures) in
     ap after (c .end .ensures) ∙ rw n (ap given (gives-up (g .chosen) (g .exchange) (omega arith)))
 
 pub expire-spec : {M : Type 1} → statement M
@@ -41,7 +42,7 @@ expire-spec =
     tie.close
     (tie.spec
     chosen-after-requires
-    total-sends-requires
+    plan-of-requires
     add-t8
     send-requires
     returns

@@ -1,7 +1,7 @@
--- `master::total_sends` meets its contract: an arm for each kind.
+-- `master::plan_of` meets its contract: an arm for each kind.
 use borrow.Author.Needs.{needs}
-use Rattle.master.proofs.total_sends.Statement.{statement}
-use Rattle.master.proofs.total_sends.Tie as tie
+use Rattle.master.proofs.plan_of.Statement.{statement}
+use Rattle.master.proofs.plan_of.Tie as tie
 
 enum-told : tie.Need-enum-told
 enum-told c = search needs
@@ -21,5 +21,5 @@ returns-2 c = rw (c .enum-told2 .given .1)
 returns-3 : tie.Need-returns-3
 returns-3 c = rw (c .enum-told3 .given .1)
 
-pub total-sends-spec : {M : Type 1} → statement M
-total-sends-spec = tie.close (tie.spec enum-told enum-told-2 enum-told-3 returns returns-2 returns-3)
+pub plan-of-spec : {M : Type 1} → statement M
+plan-of-spec = tie.close (tie.spec enum-told enum-told-2 enum-told-3 returns returns-2 returns-3)
