@@ -3,6 +3,7 @@ use Prim.Native.Nat.{ℕ, _+_, _≤_, _<_}
 use mathlib.Core.Path.{_≡_, sym, ap, _∙_}
 use mathlib.Core.Logic.{_≢_}
 use mathlib.Core.Bool.{Bool, true, false, not}
+use native.Mathlib.Omega.{arith}
 use mathlib.Core.List.{List, [], _∷_}
 use lib.Dec.{leb}
 use borrow.Author.Tests.{eq-eqb, ne-eqb, lt-ltb, le-ltb, le-leb, lt-leb, leb-true}
@@ -12,11 +13,12 @@ use Rattle.format.specs.Tests.{all}
 use Rattle.format.proofs.Tests.{each}
 use Rattle.format.proofs.Checks.{stop, pass, none-left}
 use Rattle.master.specs.declared.Kind.{Kind}
+use Rattle.master.specs.declared.Kind.the-variants.{Poll, DataBlock, Command}
 use Rattle.master.specs.declared.Exchange.{Exchange}
 use Rattle.master.specs.declared.Activity.the-variants.{Idle, UnderWay}
 use Rattle.master.specs.declared.Master.{Master}
 use Rattle.master.specs.Masters.{planOf, switched, exchangeSound, sound}
-use Rattle.master.specs.Exchanges.{Handed, given, handed, gaveUp, done, underWay, sent, ended, starting, counts, replying, chosenAfter, expired, timingOut}
+use Rattle.master.specs.Exchanges.{Handed, given, handed, gaveUp, done, underWay, sent, ended, starting, counts, replying, chosenAfter, again, expired, timingOut}
 
 abbrev pub refuses : Master → ℕ → Handed
 refuses master n = record { answer = refused n; master = master }
@@ -33,13 +35,18 @@ module _ (chosen : List ℕ) (exchange : Exchange) where
   switches h = rw (eq-eqb _ _ h)
 
   pub goes-on : exchange .sends < planOf (exchange .kind) .total
-      → sent (chosenAfter chosen exchange) (record { kind = exchange .kind; node = exchange .node; sends = exchange .sends + 1 }) ≡ expired chosen (UnderWay exchange)
+      → sent (chosenAfter chosen exchange) (again exchange) ≡ expired chosen (UnderWay exchange)
   unfolding expired
   goes-on h = rw (lt-ltb _ _ h)
 
   pub gives-up : planOf (exchange .kind) .total ≤ exchange .sends → ended gaveUp (chosenAfter chosen exchange) ≡ expired chosen (UnderWay exchange)
   unfolding expired
   gives-up h = rw (le-ltb _ _ h)
+
+pub few-sends : (kind : Kind) → planOf kind .total ≤ 3
+few-sends Poll = omega arith
+few-sends DataBlock = omega arith
+few-sends Command = omega arith
 
 -- ---- the calls
 

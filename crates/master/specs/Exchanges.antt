@@ -96,13 +96,16 @@ unfoldable pub chosenAfter : List ℕ → Exchange → List ℕ
 chosenAfter chosen exchange =
     cond (eqb (exchange .sends) (planOf (exchange .kind) .first)) (switched chosen (exchange .node)) chosen
 
+-- the exchange, sent once more
+abbrev pub again : Exchange → Exchange
+again exchange = record { kind = exchange .kind; node = exchange .node; sends = exchange .sends + 1 }
+
 -- the next send, or, with the sends used up, gives up; where no exchange is under way nothing is sent, and IDLE comes first
 unfoldable pub expired : List ℕ → Activity → Step
 expired chosen Idle = ended gaveUp chosen
 expired chosen (UnderWay exchange) =
     cond (ltb (exchange .sends) (planOf (exchange .kind) .total))
-    (sent (chosenAfter chosen exchange)
-    (record { kind = exchange .kind; node = exchange .node; sends = exchange .sends + 1 }))
+    (sent (chosenAfter chosen exchange) (again exchange))
     (ended gaveUp (chosenAfter chosen exchange))
 
 -- IDLE: timeout with none

@@ -3,7 +3,7 @@ use mathlib.Core.Path.{_∙_, ap}
 use native.Mathlib.Omega.{arith}
 use Rattle.master.specs.declared.Plan.{Plan}
 use Rattle.master.specs.Exchanges.{given, after}
-use Rattle.master.proofs.Moves.{goes-on, gives-up}
+use Rattle.master.proofs.Moves.{goes-on, gives-up, few-sends}
 use borrow.Author.Needs.{needs}
 use Rattle.master.proofs.expire.Statement.{statement}
 use Rattle.master.proofs.expire.Tie as tie
@@ -15,7 +15,11 @@ plan-of-requires : tie.Need-plan-of-requires
 plan-of-requires c κs = search needs
 
 add-t8 : tie.Need-add-t8
-add-t8 c = search needs
+add-t8 c =
+    let g = c .before .before .before .before .before .before .args in
+    let few = few-sends (g .exchange .kind) in
+    let e = ap (λ (p : Plan). p .total) (c .before .before .before .before .plan-of .ensures) in
+    omega arith
 
 send-requires : tie.Need-send-requires
 send-requires c κs = search needs

@@ -20,6 +20,13 @@ in-range : (c : tie.Else2)
 unfolding all
 in-range c = not-false _ (c .if2 .left)
 
+-- what the test says of the reply
+told : (c : tie.After-counts)
+    → let g = c .before .before .before .before .before .before .before .before .args in counts (g .self .chosen) (g .bus) (g .node) (g .function) (g .self .activity) ≡ c .counts .result
+told c =
+    let g = c .before .before .before .before .before .before .before .before .args in
+    ap (counts (g .self .chosen) (g .bus) (g .node) (g .function)) (c .before .before .activity .given .1) ∙ sym (c .counts .ensures)
+
 is-sound-requires : tie.Need-is-sound-requires
 is-sound-requires c κs = search needs
 
@@ -62,7 +69,7 @@ returns-3 c =
     let e = c .before .before .before .before .activity .given .1 in
     ap after (c .refuse4 .ensures)
     ∙ reply-other (g .self) (g .bus) (g .node) (g .function) (sound-there (c .before .before .before .before .before .before .before)) (in-range (c .before .before .before .before .before .before)) (ap underWay e)
-    (ap (counts (g .self .chosen) (g .bus) (g .node) (g .function)) e ∙ sym (c .before .before .counts .ensures) ∙ not-true _ (c .before .if3 .taken))
+    (told (c .before .before) ∙ not-true _ (c .before .if3 .taken))
 
 end-requires : tie.Need-end-requires
 end-requires c κs = search needs
@@ -79,7 +86,7 @@ returns-5 c =
     let e = c .before .before .before .before .activity .given .1 in
     ap after (c .end .ensures)
     ∙ reply-done (g .self) (g .bus) (g .node) (g .function) (sound-there (c .before .before .before .before .before .before .before)) (in-range (c .before .before .before .before .before .before)) (ap underWay e)
-    (ap (counts (g .self .chosen) (g .bus) (g .node) (g .function)) e ∙ sym (c .before .before .counts .ensures) ∙ not-false _ (c .before .if3 .left))
+    (told (c .before .before) ∙ not-false _ (c .before .if3 .left))
 
 pub reply-spec : {M : Type 1} → statement M
 reply-spec =
