@@ -1,8 +1,10 @@
 -- `master::expire` meets its contract: with sends left the next goes out, else the exchange ends.
+use Prim.Native.Nat.{ℕ}
 use mathlib.Core.Path.{_∙_, ap}
+use mathlib.Core.List.{List}
 use native.Mathlib.Omega.{arith}
 use Rattle.master.specs.declared.Plan.{Plan}
-use Rattle.master.specs.Exchanges.{given, after}
+use Rattle.master.specs.Exchanges.{gaveUp, given, sent, ended, again, after}
 use Rattle.master.proofs.Moves.{goes-on, gives-up, few-sends}
 use borrow.Author.Needs.{needs}
 use Rattle.master.proofs.expire.Statement.{statement}
@@ -29,7 +31,7 @@ returns c =
     let g = c .before .before .before .before .before .before .before .args in
     let n = c .before .before .before .before .before .before .chosen-after .ensures in
     let e = ap (λ (p : Plan). p .total) (c .before .before .before .before .before .plan-of .ensures) in
-    c .send .ensures ∙ rw n (ap given (goes-on (g .chosen) (g .exchange) (omega arith)))
+    c .send .ensures ∙ ap (λ (chosen : List ℕ). given (sent chosen (again (g .exchange)))) n ∙ ap given (goes-on (g .chosen) (g .exchange) (omega arith))
 
 end-requires : tie.Need-end-requires
 end-requires c κs = search needs
@@ -39,7 +41,7 @@ returns-2 c =
     let g = c .before .before .before .before .before .before .args in
     let n = c .before .before .before .before .before .chosen-after .ensures in
     let e = ap (λ (p : Plan). p .total) (c .before .before .before .before .plan-of .ensures) in
-    ap after (c .end .ensures) ∙ rw n (ap given (gives-up (g .chosen) (g .exchange) (omega arith)))
+    ap after (c .end .ensures) ∙ ap (λ (chosen : List ℕ). given (ended gaveUp chosen)) n ∙ ap given (gives-up (g .chosen) (g .exchange) (omega arith))
 
 pub expire-spec : {M : Type 1} → statement M
 expire-spec =
