@@ -28,7 +28,7 @@ fn near_both(source: u8) -> bool {
     (source <= 7) | (16 <= source) & (source <= 23)
 }
 
-// Destinations 31 and 63, the last five bits of 1A and 3B.
+// Destinations 31 (of 3B) and 63 (of 1A), which end in 11111.
 fn ends_11111(destination: u8) -> bool {
     (destination == 31) | (destination == 63)
 }

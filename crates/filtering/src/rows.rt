@@ -1,5 +1,5 @@
 // The rows of Table A.1, each as code 0, mask 0, code 1, mask 1, code 2, mask 2, code 3, mask 3. What
-// each lets pass is written for some identifiers by name, and counted and compared over all. Rows 0 to
+// each lets pass is shown for some identifiers by name, then counted and compared over all. Rows 0 to
 // 10 have a 00 too many in the table, which is left out; a cell with several values is their OR.
 use crate::counting::identifier;
 use crate::counting::one;
@@ -37,8 +37,8 @@ fn show_row(row: u8) {
     show::text(b":");
 }
 
-// From the master to the node of the row, to the node after it and to node 63, from node 1 to the
-// node of the row; then the multicast addresses 1A, 3A and 3B, and 1A from node 1.
+// From the master to the address of the row, to the next address and to address 63, and from address
+// 1 to that of the row; then the multicast addresses 1A, 3A and 3B, and 1A from address 1.
 fn show_names(row: u8, pair: Pair)
     requires { ⌜ row < 63 ⌝ }
 {

@@ -23,7 +23,7 @@ use Rattle.master.specs.Exchanges.{Handed, given, handed, gaveUp, done, 
 abbrev pub refuses : Master → ℕ → Handed
 refuses master n = record { answer = refused n; master = master }
 
--- ---- the chosen buses after a timeout
+-- ---- a timeout of an exchange
 
 module _ (chosen : List ℕ) (exchange : Exchange) where
   pub stays : exchange .sends ≢ planOf (exchange .kind) .first → chosen ≡ chosenAfter chosen exchange

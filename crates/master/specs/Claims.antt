@@ -49,14 +49,14 @@ Unanswered =
     (answers master calls ≡ map (λ bus. value (send bus)) sends ++ value gaveUp ∷ [])
     × (run master calls ≡ record { chosen = switched (master .chosen) node; activity = Idle })
 
--- the bus of the latest send is the bus chosen for the node, whatever calls came before
+-- after any calls on a master that had no exchange, the bus of the latest send is the bus chosen for the node
 unfoldable pub LatestSend : Type 0
 LatestSend =
-    (master : Master) (calls : List Call) (bus : ℕ) (exchange : Exchange) → master .activity ≡ Idle
+    (master : Master) (calls : List Call) (none : ℕ) (exchange : Exchange) → master .activity ≡ Idle
     → run master calls .activity ≡ UnderWay exchange
-    → chosenBus (run master calls .chosen) (exchange .node) ≡ latest bus (answers master calls)
+    → chosenBus (run master calls .chosen) (exchange .node) ≡ latest none (answers master calls)
 
--- a reply on another bus than that of the latest send ends no exchange: it is not "done", and changes nothing
+-- after such calls a reply on another bus than that of the latest send ends no exchange: it is not "done", and changes nothing
 unfoldable pub LateReply : Type 0
 LateReply =
     (master : Master) (calls : List Call) (bus node function none : ℕ) → master .activity ≡ Idle

@@ -100,7 +100,7 @@ chosenAfter chosen exchange =
 abbrev pub again : Exchange → Exchange
 again exchange = record { kind = exchange .kind; node = exchange .node; sends = exchange .sends + 1 }
 
--- the next send, or, with the sends used up, gives up; where no exchange is under way nothing is sent, and IDLE comes first
+-- the next send, or, with the sends used up, gives up; the case Idle is never used, as IDLE is refused first
 unfoldable pub expired : List ℕ → Activity → Step
 expired chosen Idle = ended gaveUp chosen
 expired chosen (UnderWay exchange) =

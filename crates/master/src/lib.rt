@@ -1,5 +1,5 @@
-// A master: one chosen bus for each node, and at most one exchange with a node, which is sent again,
-// on the same or on the other bus, until it is answered or its sends are used up.
+// A master: one chosen bus for each node, and at most one exchange, which is sent again, on the same
+// or on the other bus, until it is answered or its sends are used up.
 use format::Refusal;
 ghost use mathlib.Core.Path.{_≡_};
 ghost use Prim.Native.Nat.{_≤_};

@@ -138,7 +138,7 @@ fn switched() {
     on_b(m);
 }
 
-// Exchanges that nobody answers, twice of each kind.
+// Exchanges that nobody answers, two of each kind.
 fn unanswered() {
     let m = Master::new();
     let m = start(m, Kind::Poll, 5);
@@ -208,7 +208,7 @@ fn refused() {
     let _ = timeout(m);
 }
 
-// Every call on a master.
+// Every call, with fields out of range: STATE comes first.
 fn every_call(master: Master) {
     let m = start(master, Kind::Poll, 64);
     let m = reply(m, 2, 64, 32);

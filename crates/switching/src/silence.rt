@@ -98,7 +98,8 @@ fn overrun() {
     let _ = check(w, 16000);
 }
 
-// Clocks behind the last time: by 1 ms, by 2^32 - 16,000 and by 2^32 - 15,999.
+// Clocks behind the last time: by 1 ms, by 2^32 - 16,000 and by 2^32 - 15,999; by 1 ms across the
+// overrun; and by 1 ms, checked twice.
 fn behind() {
     let w = begin(4294967295);
     let _ = check(w, 4294967294);

@@ -25,7 +25,7 @@ pub struct Checked {
     pub b: bool,
 }
 
-// Whether a bus heard last at that time is to be reset now. The count runs over, so the difference
+// Whether a bus last heard at `last` is to be reset at `now`. The count runs over, so the difference
 // wraps.
 fn is_silent(last: u32, now: u32) -> bool
     ensures { λ r. ⌜ r ≡ silent last now ⌝ }
