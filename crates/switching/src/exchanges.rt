@@ -5,6 +5,7 @@ use master::Answer;
 use master::Exchange;
 use master::Kind;
 use master::Master;
+use master::Moved;
 
 fn kind_name(kind: Kind) {
     match kind {
@@ -68,17 +69,21 @@ fn answer(answer: Answer) {
     }
 }
 
+// Shows what a call answers and hands back.
+fn shown(moved: Moved) -> Master {
+    let said = moved.answer;
+    answer(said);
+    let next = moved.master;
+    state(next);
+    next
+}
+
 fn start(master: Master, kind: Kind, node: u8) -> Master {
     show::text(b"start");
     kind_name(kind);
     show::field(b"to", node);
     show::text(b":");
-    let r = master.start(kind, node);
-    let said = r.answer;
-    answer(said);
-    let next = r.master;
-    state(next);
-    next
+    shown(master.start(kind, node))
 }
 
 fn reply(master: Master, bus: u8, node: u8, function: u8) -> Master {
@@ -87,22 +92,12 @@ fn reply(master: Master, bus: u8, node: u8, function: u8) -> Master {
     show::field(b"from", node);
     show::field(b"function", function);
     show::text(b":");
-    let r = master.reply(bus, node, function);
-    let said = r.answer;
-    answer(said);
-    let next = r.master;
-    state(next);
-    next
+    shown(master.reply(bus, node, function))
 }
 
 fn timeout(master: Master) -> Master {
     show::text(b"timeout:");
-    let r = master.timeout();
-    let said = r.answer;
-    answer(said);
-    let next = r.master;
-    state(next);
-    next
+    shown(master.timeout())
 }
 
 // The nodes for which bus B is chosen.
@@ -138,29 +133,25 @@ fn switched() {
     on_b(m);
 }
 
-// Exchanges that nobody answers, two of each kind.
+// One exchange of each kind that nobody answers.
+fn each_unanswered(master: Master) -> Master {
+    let m = start(master, Kind::Poll, 5);
+    let m = timeout(m);
+    let m = start(m, Kind::DataBlock, 6);
+    let m = timeout(m);
+    let m = timeout(m);
+    let m = start(m, Kind::Command, 63);
+    let m = timeout(m);
+    let m = timeout(m);
+    let m = timeout(m);
+    on_b(m);
+    m
+}
+
+// The second time round the nodes begin on bus B.
 fn unanswered() {
-    let m = Master::new();
-    let m = start(m, Kind::Poll, 5);
-    let m = timeout(m);
-    let m = start(m, Kind::DataBlock, 6);
-    let m = timeout(m);
-    let m = timeout(m);
-    let m = start(m, Kind::Command, 63);
-    let m = timeout(m);
-    let m = timeout(m);
-    let m = timeout(m);
-    on_b(m);
-    let m = start(m, Kind::Poll, 5);
-    let m = timeout(m);
-    let m = start(m, Kind::DataBlock, 6);
-    let m = timeout(m);
-    let m = timeout(m);
-    let m = start(m, Kind::Command, 63);
-    let m = timeout(m);
-    let m = timeout(m);
-    let m = timeout(m);
-    on_b(m);
+    let m = each_unanswered(Master::new());
+    let _ = each_unanswered(m);
 }
 
 // Replies that count and that do not: node, function and bus.
