@@ -1,18 +1,19 @@
 // The rows of Table A.1, each as code 0, mask 0, code 1, mask 1, code 2, mask 2, code 3, mask 3. What
 // each lets pass is shown for some identifiers by name, then counted and compared over all. Rows 0 to
 // 10 have a 00 too many in the table, which is left out; a cell with several values is their OR.
-use crate::counting::identifier;
 use crate::counting::one;
 use crate::expecting::expected;
 use filter::Pair;
 ghost use Prim.Native.Nat.{_<_, _≤_};
 
+// Priority and source are byte 1 of an image; byte is its byte 2, group and destination.
 fn passes(pair: Pair, priority: u8, source: u8, byte: u8) -> usize
     requires { ⌜ priority < 4 ⌝ }
     requires { ⌜ source < 64 ⌝ }
     ensures { λ r. ⌜ r ≤ 1 ⌝ }
 {
-    one(pair.accepts(identifier(priority, source, byte)))
+    let id = (priority as u16) * 16384 + (source as u16) * 256 + (byte as u16);
+    one(pair.accepts(id))
 }
 
 // Whether all four priorities pass, none or some.
