@@ -1,6 +1,6 @@
 -- Document 01, "Filters, exchanges and watch", first paragraph: "A filter (extended only) is 16 code bits and 16 mask bits over ID.28
--- to ID.13. It accepts when each bit equals the code's or has mask 1 (source A.2). A pair accepts when either filter does." And its
--- first paragraph: "a Table A.1 row is read as code 0, mask 0, code 1, mask 1 and so on."
+-- to ID.13. It accepts when each bit equals the code's or has mask 1 (source A.2). A pair accepts when either filter does." And where
+-- document 01 settles four places of the source, at its beginning: "a Table A.1 row is read as code 0, mask 0, code 1, mask 1 and so on."
 use Prim.Native.Nat.{ℕ, _+_, _*_, _-_, _/_, _%_, _^_}
 use mathlib.Core.Bool.{Bool, _||_}
 use mathlib.Core.List.{List, [], _∷_, map}
