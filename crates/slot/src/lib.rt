@@ -12,7 +12,7 @@ ghost use mathlib.Core.Bool.{true};
 ghost use mathlib.Core.Path.{_≡_};
 ghost use Rattle.format.specs.Refusals.{meaning};
 ghost use Rattle.slot.specs.Codes.{keyCode, slotCode, codesFrom, is, clashing};
-ghost use Rattle.slot.specs.Slots.{isClosed, closed, place};
+ghost use Rattle.slot.specs.Slots.{sameFields, isClosed, closed, openWith, hasKey, place};
 ghost use Rattle.slot.specs.Sound.{sameFormat, keyInRange, fits, slotSound, slotsSound, any, sound, sought};
 
 // What a stream is known by: the bus (0 is A, 1 is B) and all identifier fields.
@@ -235,6 +235,87 @@ pub fn first_closed(slots: [Slot; 16]) -> usize
         let slot = slots[at];
         let occupancy = slot.occupancy;
         if is_closed(occupancy) {
+            return at;
+        }
+        at += 1;
+    }
+    16
+}
+
+fn same_fields(a: Fields, b: Fields) -> bool
+    ensures { λ r. ⌜ r ≡ sameFields a b ⌝ }
+{
+    match a {
+        Fields::Extended {
+            priority: p,
+            source: s,
+            group: g,
+            destination: d,
+            function: f,
+        } => match b {
+            Fields::Extended {
+                priority,
+                source,
+                group,
+                destination,
+                function,
+            } => {
+                (p == priority)
+                    & (s == source)
+                    & (g == group)
+                    & (d == destination)
+                    & (f == function)
+            }
+            Fields::Standard {
+                priority: _,
+                address: _,
+                side: _,
+            } => false,
+        },
+        Fields::Standard {
+            priority: p,
+            address: a,
+            side: s,
+        } => match b {
+            Fields::Extended {
+                priority: _,
+                source: _,
+                group: _,
+                destination: _,
+                function: _,
+            } => false,
+            Fields::Standard {
+                priority,
+                address,
+                side,
+            } => (p == priority) & (a == address) & (s == side),
+        },
+    }
+}
+
+fn open_with(key: Key, occupancy: Occupancy) -> bool
+    ensures { λ r. ⌜ r ≡ openWith key occupancy ⌝ }
+{
+    match occupancy {
+        Occupancy::Closed => false,
+        Occupancy::Open(stream) => {
+            let own = stream.key;
+            let a = own.fields;
+            let b = key.fields;
+            (own.bus == key.bus) & same_fields(a, b)
+        }
+    }
+}
+
+// The first slot that is open with the key, 16 if there is none. The slots need not be sound.
+pub fn find(slots: [Slot; 16], key: Key) -> usize
+    ensures { λ r. ⌜ r ≡ place (hasKey key) slots ⌝ }
+{
+    let mut at: usize = 0;
+    while at < 16 {
+        let slot = slots[at];
+        let occupancy = slot.occupancy;
+        if open_with(key, occupancy) {
             return at;
         }
         at += 1;

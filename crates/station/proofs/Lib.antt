@@ -1,10 +1,10 @@
-mod Areas
-mod Steps
-mod Slots
-mod Calls
-mod Isolation
+pub mod Areas
+pub mod Steps
+pub mod Slots
+pub mod Calls
+pub mod Isolation
 mod Pieces
 mod RoundTrip
-mod Soundness
-mod Turning
-mod Handing
+pub mod Soundness
+pub mod Turning
+pub mod Handing

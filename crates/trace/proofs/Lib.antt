@@ -1,3 +1,5 @@
 mod Reading
 mod Texts
 mod Writing
+pub mod Longest
+pub mod Arriving

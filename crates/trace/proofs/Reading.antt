@@ -23,6 +23,11 @@ both-left : (a b : Bool) → not (a && b) ≡ false → a ≡ true
 both-left true b e = refl
 both-left false b e = cc
 
+pub both-right : (a b : Bool) → not (a && b) ≡ false → b ≡ true
+both-right true true e = refl
+both-right true false e = cc
+both-right false b e = cc
+
 pub at-least : (follows : ℕ) → not (leb 2 follows && leb follows 15) ≡ false → 2 ≤ follows
 at-least follows h = leb-true 2 follows (both-left (leb 2 follows) (leb follows 15) h)
 

@@ -92,6 +92,9 @@ pub enum Line {
     },
 }
 
+// An output of so many bytes has room for every line.
+pub const LONGEST_LINE: usize = 96;
+
 // The functions below put bytes into a text of which the first `at` bytes count, and answer where
 // these then end.
 

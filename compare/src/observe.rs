@@ -1,0 +1,226 @@
+//! What occurred in a run, as its listing shows it.
+
+use crate::tally::Tally;
+
+const ANSWERS: [&str; 13] = [
+    "packet",
+    "packet broke",
+    "kept",
+    "kept broke",
+    "filtered",
+    "refused 1",
+    "refused 2",
+    "refused 3",
+    "refused 4",
+    "refused 5",
+    "refused 6",
+    "refused 7",
+    "refused 8",
+];
+
+const WRAPPED: &str = "middle with number 0 kept (piece 64, 128 or 192)";
+const WHOLE_512: &str = "packet of over 512 bytes";
+const WHOLE_2048: &str = "packet of 2048 bytes";
+const LONG_0: &str = "number 0 refused 8 (piece 257)";
+const ORPHAN_END: &str = "end refused 6";
+const BETWEEN: &str = "packet with frames of another source between its own";
+const TWIN: &str = "packet with frames of the same fields on the other bus between";
+const STOPPED: &str = "stopped";
+
+/// The names under which a listing's lines are counted.
+pub fn names() -> Vec<String> {
+    let singles = (0..=8).map(|length| format!("single of {length} bytes"));
+    let others = [
+        WRAPPED, WHOLE_512, WHOLE_2048, LONG_0, ORPHAN_END, BETWEEN, TWIN, STOPPED,
+    ];
+    let fixed = ANSWERS.iter().chain(&others).map(|name| name.to_string());
+    fixed.chain(singles).collect()
+}
+
+/// A line with all its fields.
+struct Line<'a> {
+    bus: &'a str,
+    /// Priority, source, group, destination and function.
+    fields: [&'a str; 5],
+    flag: &'a str,
+    number: &'a str,
+    answer: &'a [&'a str],
+}
+
+/// A packet under way, and what came between its pieces.
+struct UnderWay {
+    bus: String,
+    fields: [String; 5],
+    other_source: bool,
+    twin: bool,
+}
+
+impl UnderWay {
+    fn has_key(&self, line: &Line) -> bool {
+        self.bus == line.bus && self.fields == line.fields
+    }
+}
+
+/// Follows one listing line by line.
+struct Observer<'a> {
+    under_way: Vec<UnderWay>,
+    tally: &'a mut Tally,
+}
+
+/// Counts what the lines of a listing show. Gives the number in its last line.
+pub fn observe(listing: &str, tally: &mut Tally) -> Option<usize> {
+    let mut observer = Observer {
+        under_way: Vec::new(),
+        tally,
+    };
+    let mut records = None;
+    for line in listing.lines().skip(1) {
+        let words: Vec<&str> = line.split(' ').collect();
+        match words[..] {
+            ["records", number] => records = number.parse().ok(),
+            [_, "stopped"] => observer.tally.count(STOPPED),
+            [_, _, "refused", number] => observer.tally.count(&format!("refused {number}")),
+            [_, bus, p, s, g, d, flag, number, f, _, ref answer @ ..] => observer.line(&Line {
+                bus,
+                fields: [p, s, g, d, f],
+                flag,
+                number,
+                answer,
+            }),
+            _ => observer.tally.count("line of another form"),
+        }
+    }
+    records
+}
+
+impl Observer<'_> {
+    fn line(&mut self, line: &Line) {
+        self.pass_by(line);
+        match *line.answer {
+            ["packet", length] => {
+                self.tally.count("packet");
+                self.packet(line, length);
+            }
+            ["packet", length, "broke"] => {
+                self.tally.count("packet broke");
+                self.packet(line, length);
+            }
+            ["refused", number] => self.refused(line, number),
+            _ => {
+                self.tally.count(&line.answer.join(" "));
+                self.kept(line);
+            }
+        }
+    }
+
+    /// Notes at the other packets under way that this frame came between their pieces.
+    fn pass_by(&mut self, line: &Line) {
+        for other in &mut self.under_way {
+            other.other_source |= other.fields[1] != line.fields[1];
+            other.twin |= other.bus != line.bus && other.fields == line.fields;
+        }
+    }
+
+    fn kept(&mut self, line: &Line) {
+        match (line.flag, line.answer[0]) {
+            ("1", "kept") => {
+                self.forget(line);
+                self.under_way.push(UnderWay {
+                    bus: line.bus.to_string(),
+                    fields: line.fields.map(str::to_string),
+                    other_source: false,
+                    twin: false,
+                });
+            }
+            ("0", "kept") if line.number == "0" => self.tally.count(WRAPPED),
+            _ => {}
+        }
+    }
+
+    fn packet(&mut self, line: &Line, length: &str) {
+        let ended = self.forget(line);
+        if line.flag == "3" {
+            self.tally.count(&format!("single of {length} bytes"));
+            return;
+        }
+        let length: usize = length.parse().unwrap_or(0);
+        let ended = ended.as_ref();
+        let facts = [
+            (length > 512, WHOLE_512),
+            (length == 2048, WHOLE_2048),
+            (ended.is_some_and(|packet| packet.other_source), BETWEEN),
+            (ended.is_some_and(|packet| packet.twin), TWIN),
+        ];
+        for (holds, name) in facts {
+            if holds {
+                self.tally.count(name);
+            }
+        }
+    }
+
+    fn refused(&mut self, line: &Line, number: &str) {
+        self.tally.count(&format!("refused {number}"));
+        match (number, line.flag, line.number) {
+            ("6", "2", _) => self.tally.count(ORPHAN_END),
+            ("8", _, "0") => self.tally.count(LONG_0),
+            _ => {}
+        }
+        // After 7 and 8 the stream is idle; after 6 it held nothing.
+        self.forget(line);
+    }
+
+    fn forget(&mut self, line: &Line) -> Option<UnderWay> {
+        let place = self.under_way.iter().position(|p| p.has_key(line))?;
+        Some(self.under_way.swap_remove(place))
+    }
+}
+
+#[cfg(test)]
+mod tests {
+    use super::*;
+
+    fn missing(listing: &str) -> String {
+        let mut tally = Tally::requiring(names());
+        observe(listing, &mut tally);
+        tally.check().expect_err("a short listing lacks much")
+    }
+
+    #[test]
+    fn sees_packets_between_one_another() {
+        let listing = "header\n1 A 0 1 0 0 1 0 2 8 kept\n2 B 0 1 0 0 1 0 2 8 kept\n\
+                       3 A 0 2 0 0 3 0 2 0 packet 0\n4 A 0 1 0 0 2 1 2 1 packet 9\nrecords 4\n";
+        let missing = missing(listing);
+        for name in [BETWEEN, TWIN, "single of 0 bytes"] {
+            assert!(!missing.contains(name), "{name}");
+        }
+        assert!(missing.contains(WHOLE_512));
+    }
+
+    #[test]
+    fn sees_no_others_where_there_are_none() {
+        let listing = "header\n1 A 0 1 0 0 1 0 2 8 kept\n2 A 0 1 0 0 2 1 2 1 packet 9\nrecords 2\n";
+        let missing = missing(listing);
+        assert!(missing.contains(BETWEEN) && missing.contains(TWIN));
+    }
+
+    #[test]
+    fn sees_the_wraparound_and_the_end() {
+        let listing = "header\n1 A 0 1 0 0 0 0 2 8 kept\n2 A 0 1 0 0 2 1 2 1 packet 2048\n\
+                       3 A 0 1 0 0 2 0 2 1 refused 8\n4 A 0 1 0 0 2 0 2 1 refused 6\n\
+                       5 B refused 3\n6 stopped\nrecords 5\n";
+        let missing = missing(listing);
+        for name in [
+            WRAPPED,
+            WHOLE_512,
+            WHOLE_2048,
+            LONG_0,
+            ORPHAN_END,
+            STOPPED,
+            "refused 3",
+        ] {
+            assert!(!missing.contains(name), "{name}");
+        }
+        let mut tally = Tally::requiring(Vec::new());
+        assert_eq!(observe(listing, &mut tally), Some(5));
+    }
+}

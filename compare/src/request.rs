@@ -1,0 +1,212 @@
+//! Requests and responses of the script protocol (see PROTOCOL.md).
+
+use crate::frame::{Format, Key};
+use std::io::{self, Read};
+
+pub const NEW: u8 = 1;
+pub const OPEN: u8 = 2;
+pub const CLOSE: u8 = 3;
+pub const RECEIVE: u8 = 4;
+pub const READ: u8 = 5;
+pub const COUNT: u8 = 6;
+pub const PIECE: u8 = 7;
+pub const SLOT: u8 = 8;
+pub const LEND: u8 = 9;
+pub const STORE: u8 = 10;
+pub const FILL: u8 = 11;
+
+/// The size of the bytes that both programs hold, of which a part is lent.
+pub const HELD: usize = 40_000;
+/// The size of a store that is not refused.
+pub const FULL_STORE: usize = 32_768;
+
+/// A request without its length.
+pub type Request = Vec<u8>;
+
+pub fn code(format: Format) -> u8 {
+    match format {
+        Format::Extended => 0,
+        Format::Standard => 1,
+    }
+}
+
+pub fn new(format: Format) -> Request {
+    vec![NEW, code(format)]
+}
+
+/// Bus, format and five fields. `spare` goes where the fields of standard end and nothing is looked at.
+fn key_bytes(key: &Key, spare: u8) -> [u8; 7] {
+    let [a, b, c, d, e] = key.fields;
+    match key.format {
+        Format::Extended => [key.bus, 0, a, b, c, d, e],
+        Format::Standard => [key.bus, 1, a, b, c, spare, !spare],
+    }
+}
+
+pub fn open(key: &Key, spare: u8) -> Request {
+    let mut request = vec![OPEN];
+    request.extend(key_bytes(key, spare));
+    request
+}
+
+pub fn close(slot: u8) -> Request {
+    vec![CLOSE, slot]
+}
+
+pub fn receive(bus: u8, image: &[u8]) -> Request {
+    let mut request = vec![RECEIVE, bus];
+    request.extend_from_slice(image);
+    request
+}
+
+pub fn read(slot: u8) -> Request {
+    vec![READ, slot]
+}
+
+pub fn count(format: Format, size: u32) -> Request {
+    let mut request = vec![COUNT, code(format)];
+    request.extend(size.to_be_bytes());
+    request
+}
+
+/// Piece k with the fields of a key; its bus is not used.
+pub fn piece(key: &Key, spare: u8, k: u16, room: u8, packet: &[u8]) -> Request {
+    let mut request = vec![PIECE];
+    request.extend(&key_bytes(key, spare)[1..]);
+    request.extend(k.to_be_bytes());
+    request.push(room);
+    request.extend_from_slice(packet);
+    request
+}
+
+/// The kinds of slot.
+pub const CLOSED: u8 = 0;
+pub const IDLE: u8 = 1;
+pub const COLLECTING: u8 = 2;
+pub const DONE: u8 = 3;
+
+pub fn slot(place: usize, kind: u8, h: u16, key: &Key, spare: u8) -> Request {
+    let mut request = vec![SLOT, place as u8, kind];
+    request.extend(h.to_be_bytes());
+    request.extend(key_bytes(key, spare));
+    request
+}
+
+pub fn lend(size: usize) -> Request {
+    let mut request = vec![LEND];
+    request.extend((size as u16).to_be_bytes());
+    request
+}
+
+pub fn store(from: usize, size: usize) -> Request {
+    let mut request = vec![STORE];
+    request.extend((from as u16).to_be_bytes());
+    request.extend((size as u16).to_be_bytes());
+    request
+}
+
+pub fn fill(seed: u8) -> Request {
+    vec![FILL, seed]
+}
+
+/// The requests as they are fed to a program.
+pub fn encode(requests: &[Request]) -> Vec<u8> {
+    let mut bytes = Vec::new();
+    for request in requests {
+        bytes.extend((request.len() as u16).to_be_bytes());
+        bytes.extend_from_slice(request);
+    }
+    bytes
+}
+
+/// The next response, or nothing where the output ends.
+pub fn next_response(output: &mut impl Read) -> io::Result<Option<Vec<u8>>> {
+    let mut length = [0; 2];
+    if output.read(&mut length[..1])? == 0 {
+        return Ok(None);
+    }
+    output.read_exact(&mut length[1..])?;
+    let mut response = vec![0; usize::from(u16::from_be_bytes(length))];
+    output.read_exact(&mut response)?;
+    Ok(Some(response))
+}
+
+/// The name of an operation.
+pub fn name(operation: u8) -> &'static str {
+    match operation {
+        NEW => "NEW",
+        OPEN => "OPEN",
+        CLOSE => "CLOSE",
+        RECEIVE => "RECEIVE",
+        READ => "READ",
+        COUNT => "COUNT",
+        PIECE => "PIECE",
+        SLOT => "SLOT",
+        LEND => "LEND",
+        STORE => "STORE",
+        FILL => "FILL",
+        _ => "unknown",
+    }
+}
+
+/// The answer at the head of a response, in words. A value is not told.
+pub fn answer(response: &[u8]) -> String {
+    let &[kind, high, low, broke, ..] = response else {
+        return "no answer".to_string();
+    };
+    let word = match kind {
+        1 => "packet".to_string(),
+        2 => "kept".to_string(),
+        3 => "filtered".to_string(),
+        4 => format!("refused {}", u16::from_be_bytes([high, low])),
+        5 => "value".to_string(),
+        _ => format!("kind {kind}"),
+    };
+    match broke {
+        0 => word,
+        _ => word + " broke",
+    }
+}
+
+#[cfg(test)]
+mod tests {
+    use super::*;
+
+    #[test]
+    fn requests_have_the_sizes_of_the_protocol() {
+        let key = Key {
+            bus: 1,
+            format: Format::Standard,
+            fields: [1, 2, 1, 0, 0],
+        };
+        assert_eq!(open(&key, 9), [2, 1, 1, 1, 2, 1, 9, 246]);
+        assert_eq!(slot(3, DONE, 258, &key, 0)[..6], [8, 3, 3, 1, 2, 1]);
+        assert_eq!(slot(3, DONE, 258, &key, 0).len(), 12);
+        assert_eq!(
+            piece(&key, 9, 258, 13, &[5])[..],
+            [7, 1, 1, 2, 1, 9, 246, 1, 2, 13, 5]
+        );
+        assert_eq!(count(Format::Extended, 2049), [6, 0, 0, 0, 8, 1]);
+        assert_eq!(store(0, HELD), [10, 0, 0, 0x9C, 0x40]);
+        assert_eq!(lend(FULL_STORE), [9, 0x80, 0]);
+    }
+
+    #[test]
+    fn encodes_and_splits() {
+        let requests = vec![new(Format::Standard), Vec::new(), fill(7)];
+        let bytes = encode(&requests);
+        let mut rest = &bytes[..];
+        for request in &requests {
+            assert_eq!(next_response(&mut rest).unwrap().as_ref(), Some(request));
+        }
+        assert_eq!(next_response(&mut rest).unwrap(), None);
+        assert!(next_response(&mut &bytes[..3]).is_err());
+    }
+
+    #[test]
+    fn reads_answers() {
+        assert_eq!(answer(&[1, 0, 9, 1, 0]), "packet broke");
+        assert_eq!(answer(&[4, 0, 21, 0]), "refused 21");
+        assert_eq!(answer(&[]), "no answer");
+    }
+}

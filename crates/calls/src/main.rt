@@ -1,0 +1,205 @@
+// Reads requests from standard input, calls the library, and writes a response to each to standard
+// output: compare/PROTOCOL.md.
+mod bench;
+mod request;
+mod response;
+
+use bench::Bench;
+use format::Format;
+ghost use mathlib.Core.Path.{_≡_};
+ghost use Prim.Native.Nat.{_≤_};
+ghost use lib.ListN.{length};
+
+// Where the work stands on a filled input: the place of the next request, and how much of the
+// output is filled.
+struct Work {
+    bench: Bench,
+    at: usize,
+    filled: usize,
+    going: bool,
+}
+
+// Between two reads: how many bytes of the input are not worked off yet, and whether to go on.
+struct Session {
+    bench: Bench,
+    held: usize,
+    going: bool,
+}
+
+// Where a request stands in the input, without its length; to is 0 if it is not whole.
+struct Span {
+    from: usize,
+    to: usize,
+}
+
+fn nowhere() -> Span
+    ensures { λ r. ⌜ (r .from ≡ 0) × (r .to ≡ 0) ⌝ }
+{
+    Span { from: 0, to: 0 }
+}
+
+fn request_at(input: &[u8], at: usize) -> Span
+    ensures { λ r. ⌜ (r .from ≤ r .to) × (r .to ≤ length (now (input .entry))) ⌝ }
+{
+    if at >= input.len() {
+        return nowhere();
+    }
+    let from = at + 2;
+    if from > input.len() {
+        return nowhere();
+    }
+    let to = from + request::number(input, at);
+    if to > input.len() {
+        return nowhere();
+    }
+    Span { from, to }
+}
+
+// Where the next response starts, after the two bytes of its length; 0 if there might not be room
+// for the longest.
+fn start_of(output: &[u8], filled: usize, most: usize) -> usize
+    ensures { λ r. ⌜ r ≤ length (now (output .entry)) ⌝ }
+{
+    if filled >= output.len() {
+        return 0;
+    }
+    let start = filled + 2;
+    if start > output.len() {
+        return 0;
+    }
+    if most > output.len() - start {
+        return 0;
+    }
+    start
+}
+
+// Where a response of that size ends; each ends within the output.
+fn end_of(output: &[u8], start: usize, size: usize) -> usize {
+    if start > output.len() {
+        return 0;
+    }
+    if size > output.len() - start {
+        return start;
+    }
+    start + size
+}
+
+fn stopped(work: Work) -> Work {
+    let bench = work.bench;
+    Work {
+        bench: bench,
+        at: work.at,
+        filled: work.filled,
+        going: false,
+    }
+}
+
+// Works off one request, if one is whole and the output has room for any response: the longest is
+// that of STORE, all bytes.
+fn step(work: Work, bytes: &mut [u8], input: &[u8], output: &mut [u8]) -> Work {
+    let filled = work.filled;
+    let span = request_at(input, work.at);
+    let start = start_of(output, filled, bytes.len());
+    let from = span.from;
+    let to = span.to;
+    if to == 0 {
+        return stopped(work);
+    }
+    if start == 0 {
+        return stopped(work);
+    }
+    let bench = work.bench;
+    let done = bench::respond(bench, bytes, &input[from..to], &mut output[start..]);
+    let size = done.size;
+    let next = done.bench;
+    response::put_number(output, filled, size);
+    Work {
+        bench: next,
+        at: to,
+        filled: end_of(output, start, size),
+        going: true,
+    }
+}
+
+// Works off the requests of an input, of which there are fewer than it has bytes, while the output
+// has room.
+fn work_off(bench: Bench, bytes: &mut [u8], input: &[u8], output: &mut [u8]) -> Work {
+    let mut work = Work {
+        bench: bench,
+        at: 0,
+        filled: 0,
+        going: true,
+    };
+    let mut turns = input.len();
+    while turns > 0 && work.going {
+        work = step(work, bytes, input, output);
+        turns -= 1;
+    }
+    work
+}
+
+fn ended(bench: Bench) -> Session {
+    Session {
+        bench: bench,
+        held: 0,
+        going: false,
+    }
+}
+
+// Works off what is held, writes the responses and reads on. Where a whole request is left, as the
+// output had no room, it does not read: its response must not wait for more input.
+fn turn(session: Session, bytes: &mut [u8], input: &mut [u8], output: &mut [u8]) -> Session {
+    let bench = session.bench;
+    let held = session.held;
+    if held > input.len() {
+        return ended(bench);
+    }
+    let work = work_off(bench, bytes, &input[0..held], output);
+    let bench = work.bench;
+    if !pipes::write_out(output, work.filled) {
+        return ended(bench);
+    }
+    let left = pipes::keep(input, work.at, held);
+    if left > input.len() {
+        return ended(bench);
+    }
+    let span = request_at(&input[0..left], 0);
+    if span.to > 0 {
+        return Session {
+            bench: bench,
+            held: left,
+            going: true,
+        };
+    }
+    let more = pipes::read_on(input, left);
+    Session {
+        bench: bench,
+        held: more,
+        going: left < more,
+    }
+}
+
+// A proved loop has to end, and nothing says that the input does: the turns are counted down from
+// a number that no run uses up.
+fn serve(bytes: &mut [u8], input: &mut [u8], output: &mut [u8]) {
+    let bench = bench::new(Format::Extended);
+    let mut session = Session {
+        bench: bench,
+        held: 0,
+        going: true,
+    };
+    let mut turns = u64::MAX;
+    while turns > 0 && session.going {
+        session = turn(session, bytes, input, output);
+        turns -= 1;
+    }
+}
+
+// The input has room for the longest request, of 65,537 bytes, and the output for the longest
+// response, of 40,002.
+fn main() {
+    let mut bytes = [0u8; 40000];
+    let mut input = [0u8; 131072];
+    let mut output = [0u8; 131072];
+    serve(&mut bytes, &mut input, &mut output);
+}

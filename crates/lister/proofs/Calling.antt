@@ -1,0 +1,69 @@
+-- The call: refused, or all that can be listed.
+use Prim.Native.Nat.{ℕ, _+_}
+use mathlib.Core.Path.{_≡_, refl, sym, ap, _∙_}
+use native.Mathlib.Nat.{zero-add}
+use mathlib.Core.Logic.{_≢_}
+use mathlib.Core.Bool.{Bool, true, false, not}
+use mathlib.Core.List.{List, [], _∷_}
+use lib.Dec.{leb}
+use lib.ListN.{length}
+use borrow.Author.Tests.{eq-eqb, ne-eqb}
+use Rattle.format.specs.declared.Format.the-variants.{Extended}
+use Rattle.format.specs.declared.Refusal.the-variants.{State, Store, Room}
+use Rattle.format.specs.Refusals.{Result, value, refused, check, guarded}
+use Rattle.format.proofs.Checks.{stop, pass, none-left}
+use Rattle.copying.specs.Copy.{written, within, copied}
+use Rattle.packet.specs.Send as over
+use Rattle.packet.specs.Send.{answer}
+use Rattle.slot.specs.Sound.{sound}
+use Rattle.lister.specs.declared.Listing.{Listing}
+use Rattle.lister.specs.declared.Why.the-variants.{Refused}
+use Rattle.lister.specs.Listing.{Stopped, listed, endedAs, begun, listing, after, endText, ending}
+
+pub not-true : (b : Bool) → not b ≡ true → b ≡ false
+not-true true e = cc
+not-true false e = refl
+
+pub not-false : (b : Bool) → not b ≡ false → b ≡ true
+not-false true e = refl
+not-false false e = cc
+
+module _ (l : Listing) (store taken output : List ℕ) where
+  abbrev all-of-it : Stopped
+  all-of-it = listed (length taken) (length output) (begun l store taken)
+
+  pub at-state : not (sound Extended (l .slots)) ≡ true
+      → after (record { listing = l; why = Refused State; used = 0; written = 0 }) store output ≡ listing l store taken output
+  unfolding listing
+  at-state h = ap (endedAs l store taken output) (stop State _ all-of-it (not-true _ h))
+
+  module _ (ok : not (sound Extended (l .slots)) ≡ false) where
+    pub at-store : length store ≢ 32768
+        → after (record { listing = l; why = Refused Store; used = 0; written = 0 }) store output ≡ listing l store taken output
+    unfolding listing
+    at-store h = ap (endedAs l store taken output) (pass State _ all-of-it (not-false _ ok) (stop Store _ all-of-it (ne-eqb _ _ h)))
+
+    pub at-all : length store ≡ 32768 → endedAs l store taken output (value all-of-it) ≡ listing l store taken output
+    unfolding listing
+    at-all h =
+        ap (endedAs l store taken output) (pass State _ all-of-it (not-false _ ok) (pass Store _ all-of-it (eq-eqb _ _ h) (none-left all-of-it)))
+
+-- ---- the end
+
+module _ (l : Listing) (stops : Bool) (output : List ℕ) (n : ℕ) (bytes : List ℕ) (eb : bytes ≡ endText stops (l .count)) (en : n ≡ length (endText stops (l .count))) where
+  abbrev ends : Result ℕ → List ℕ → Type 0
+  ends r last = (r ≡ answer (ending l stops (length output))) × (last ≡ over.after (ending l stops (length output)) output)
+
+  pub has-room : within output 0 bytes ≡ true → (last : List ℕ) → last ≡ copied output 0 bytes → ends (value n) last
+  unfolding ending within copied written
+  has-room h last el =
+      let p : ending l stops (length output) ≡ value (endText stops (l .count)) =
+      sym (pass Room _ _ (sym (ap (λ (k : ℕ). leb k (length output)) (zero-add _ ∙ ap length eb)) ∙ h) (none-left _)) in
+      (rw (p, en), rw (p, el, h, eb, zero-add))
+
+  pub no-room : within output 0 bytes ≡ false → (last : List ℕ) → last ≡ copied output 0 bytes → ends (refused 12) last
+  unfolding ending within copied
+  no-room h last el =
+      let p : ending l stops (length output) ≡ refused 12 =
+      sym (stop Room _ _ (sym (ap (λ (k : ℕ). leb k (length output)) (zero-add _ ∙ ap length eb)) ∙ h)) in
+      (rw p, rw (p, el, h))

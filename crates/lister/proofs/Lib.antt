@@ -1,0 +1,4 @@
+mod Hearing
+mod Placing
+mod Rounds
+mod Calling

@@ -1,0 +1,103 @@
+// Lists a trace of extended frames that arrives on standard input: the header, a line a record, and
+// the count.
+use format::Outcome;
+use lister::Listing;
+use lister::Why;
+use trace::Line;
+
+// Between two reads: the listing, and how many bytes of the input are held that are no whole record.
+struct Session {
+    listing: Listing,
+    held: usize,
+    going: bool,
+}
+
+// Writes a line or lines that stand at the head of the output.
+fn write(answer: Outcome, output: &[u8]) {
+    if let Outcome::Value(n) = answer {
+        pipes::write_out(output, n);
+    }
+}
+
+fn ended(listing: Listing) -> Session {
+    Session {
+        listing: listing,
+        held: 0,
+        going: false,
+    }
+}
+
+// The last lines.
+fn end(listing: Listing, stops: bool, output: &mut [u8]) -> Session {
+    let answer = listing.end(stops, output);
+    write(answer, output);
+    ended(listing)
+}
+
+// Reads on. Where no more comes, what is held is the beginning of a damaged record, or nothing.
+fn more(listing: Listing, input: &mut [u8], held: usize, output: &mut [u8]) -> Session {
+    let all = pipes::read_on(input, held);
+    if all == held {
+        return end(listing, held > 0, output);
+    }
+    Session {
+        listing: listing,
+        held: all,
+        going: true,
+    }
+}
+
+// Lists what is held, writes the lines, and reads on where all whole records are listed. So no line
+// waits for more input.
+fn turn(session: Session, store: &mut [u8], input: &mut [u8], output: &mut [u8]) -> Session {
+    let listing = session.listing;
+    let held = session.held;
+    if held > input.len() {
+        return ended(listing);
+    }
+    let listed = listing.list(store, &input[0..held], output);
+    let listing = listed.listing;
+    let why = listed.why;
+    // Whoever read the listing has gone.
+    if !pipes::write_out(output, listed.written) {
+        return ended(listing);
+    }
+    let left = pipes::keep(input, listed.used, held);
+    match why {
+        Why::Input => more(listing, input, left, output),
+        Why::Room => Session {
+            listing: listing,
+            held: left,
+            going: true,
+        },
+        Why::Damaged => end(listing, true, output),
+        // The listing is sound, and the store has its size.
+        Why::Refused(_) => ended(listing),
+    }
+}
+
+// A proved loop has to end, and nothing says that the input does: the turns are counted down from
+// a number that no run uses up.
+fn list(store: &mut [u8], input: &mut [u8], output: &mut [u8]) {
+    let answer = trace::write_line(Line::Header, output);
+    write(answer, output);
+    let listing = Listing::new();
+    let mut session = Session {
+        listing: listing,
+        held: 0,
+        going: true,
+    };
+    let mut turns = u64::MAX;
+    while turns > 0 && session.going {
+        session = turn(session, store, input, output);
+        turns -= 1;
+    }
+}
+
+// What is read at once is written at once: a record of 16 bytes has a line of 40 or so.
+fn main() {
+    let mut store = [0u8; 32768];
+    let mut input = [0u8; 65536];
+    let mut output = [0u8; 262144];
+    list(&mut store, &mut input, &mut output);
+}

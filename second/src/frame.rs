@@ -1,0 +1,327 @@
+//! Judging a frame image: refusals 1 to 5, or the frame it holds.
+
+use crate::format::{Format, MAX_COUNT};
+use crate::key::Fields;
+use crate::refusal::Refusal;
+
+/// The place of a piece in its packet; the discriminant is the flag's two bits.
+#[derive(Clone, Copy, Debug, PartialEq, Eq)]
+pub enum Flag {
+    Middle = 0,
+    Start = 1,
+    End = 2,
+    Single = 3,
+}
+
+impl Flag {
+    /// The flag in the two low bits; the others are not looked at.
+    fn from_low_bits(bits: u8) -> Flag {
+        match bits & 0b11 {
+            0 => Flag::Middle,
+            1 => Flag::Start,
+            2 => Flag::End,
+            _ => Flag::Single,
+        }
+    }
+
+    /// The flag as its two bits.
+    pub fn bits(self) -> u8 {
+        self as u8
+    }
+}
+
+/// A frame that refusals 1 to 5 let pass.
+#[derive(Clone, Copy, Debug, PartialEq, Eq)]
+pub struct Frame<'a> {
+    pub fields: Fields,
+    pub flag: Flag,
+    /// The piece number; 0 in a single piece.
+    pub number: u8,
+    /// The count of data bytes, a standard number byte included.
+    pub count: u8,
+    /// The packet's bytes, without a standard number byte.
+    pub packet: &'a [u8],
+}
+
+/// Judges an image. The checks stand in the order of the refusal numbers.
+pub fn judge(format: Format, image: &[u8]) -> Result<Frame<'_>, Refusal> {
+    if !format.allows_image_of(image.len()) {
+        return Err(Refusal::Length);
+    }
+    let (header, data) = image.split_at(format.header_size());
+    match format {
+        Format::Extended => judge_extended(header, data),
+        Format::Standard => judge_standard(header, data),
+    }
+}
+
+fn judge_extended<'a>(header: &[u8], data: &'a [u8]) -> Result<Frame<'a>, Refusal> {
+    // Fixed are the top bits 1_00 around RTR, and three zeros after the function.
+    if header[0] & 0b1011_0000 != 0b1000_0000 || header[4] & 0b111 != 0 {
+        return Err(Refusal::Form);
+    }
+    if header[0] & 0b0100_0000 != 0 {
+        return Err(Refusal::Remote);
+    }
+    let count = judge_count(header[0], data)?;
+    let flag = Flag::from_low_bits(header[3] >> 6);
+    let number = header[3] & 0b11_1111;
+    let obeys = match flag {
+        Flag::Single => number == 0,
+        Flag::Start => count == 8 && number == 0,
+        Flag::Middle => count == 8,
+        Flag::End => count >= 1,
+    };
+    if !obeys {
+        return Err(Refusal::Piece);
+    }
+    Ok(Frame {
+        fields: Fields::Extended {
+            priority: header[1] >> 6,
+            source: header[1] & 0b11_1111,
+            group: header[2] >> 6,
+            destination: header[2] & 0b11_1111,
+            function: header[4] >> 3,
+        },
+        flag,
+        number,
+        count,
+        packet: data,
+    })
+}
+
+fn judge_standard<'a>(header: &[u8], data: &'a [u8]) -> Result<Frame<'a>, Refusal> {
+    if header[1] & 0b0001_0000 != 0 {
+        return Err(Refusal::Remote);
+    }
+    let count = judge_count(header[1], data)?;
+    let flag = Flag::from_low_bits(header[1] >> 5);
+    let (number, packet) = match flag {
+        Flag::Single => (0, data),
+        // Without a number byte the piece cannot keep any rule.
+        _ => match data {
+            [number, packet @ ..] => (*number, packet),
+            [] => return Err(Refusal::Piece),
+        },
+    };
+    let obeys = match flag {
+        Flag::Single => true,
+        Flag::Start => count == 8 && number == 0,
+        Flag::Middle => count == 8 && (1..=254).contains(&number),
+        // After one piece of 7 bytes a single byte more would have made a single.
+        Flag::End => number >= 1 && count >= if number == 1 { 3 } else { 2 },
+    };
+    if !obeys {
+        return Err(Refusal::Piece);
+    }
+    Ok(Frame {
+        fields: Fields::Standard {
+            priority: header[0] >> 6,
+            address: header[0] & 0b11_1111,
+            side: header[1] >> 7,
+        },
+        flag,
+        number,
+        count,
+        packet,
+    })
+}
+
+/// The count in the low four bits, if it is that of the data bytes at hand.
+fn judge_count(byte: u8, data: &[u8]) -> Result<u8, Refusal> {
+    let count = byte & 0b1111;
+    if usize::from(count) > MAX_COUNT || usize::from(count) != data.len() {
+        return Err(Refusal::Count);
+    }
+    Ok(count)
+}
+
+#[cfg(test)]
+mod tests {
+    use super::*;
+
+    fn refusal(format: Format, image: &[u8]) -> Option<Refusal> {
+        judge(format, image).err()
+    }
+
+    fn extended(image: &[u8]) -> Option<Refusal> {
+        refusal(Format::Extended, image)
+    }
+
+    fn standard(image: &[u8]) -> Option<Refusal> {
+        refusal(Format::Standard, image)
+    }
+
+    /// A standard image of count data bytes, the first of them the number.
+    fn standard_piece(flag: Flag, count: u8, number: u8) -> Vec<u8> {
+        let mut image = vec![0x00, flag.bits() << 5 | count];
+        image.resize(2 + usize::from(count), 0x55);
+        if count > 0 {
+            image[2] = number;
+        }
+        image
+    }
+
+    /// An extended image of count data bytes.
+    fn extended_piece(flag: Flag, count: u8, number: u8) -> Vec<u8> {
+        let mut image = vec![0x80 | count, 0, 0, flag.bits() << 6 | number, 0];
+        image.resize(5 + usize::from(count), 0x55);
+        image
+    }
+
+    #[test]
+    fn extended_single_of_one_byte() {
+        let image = [0x81, 0x45, 0x00, 0xC0, 0x10, 0x07];
+        let frame = Frame {
+            fields: Fields::Extended {
+                priority: 1,
+                source: 5,
+                group: 0,
+                destination: 0,
+                function: 2,
+            },
+            flag: Flag::Single,
+            number: 0,
+            count: 1,
+            packet: &[0x07],
+        };
+        assert_eq!(judge(Format::Extended, &image), Ok(frame));
+    }
+
+    #[test]
+    fn extended_single_empty_with_all_field_bits() {
+        let image = [0x80, 0xFF, 0xFF, 0xC0, 0xF8];
+        let frame = Frame {
+            fields: Fields::Extended {
+                priority: 3,
+                source: 63,
+                group: 3,
+                destination: 63,
+                function: 31,
+            },
+            flag: Flag::Single,
+            number: 0,
+            count: 0,
+            packet: &[],
+        };
+        assert_eq!(judge(Format::Extended, &image), Ok(frame));
+    }
+
+    #[test]
+    fn extended_refusals() {
+        let piece = [0x81, 0x45, 0x00, 0xC1, 0x10, 0x07];
+        assert_eq!(extended(&piece), Some(Refusal::Piece));
+        let first = |byte| [byte, 0x45, 0x00, 0xC0, 0x10, 0x07];
+        assert_eq!(extended(&first(0x91)), Some(Refusal::Form));
+        assert_eq!(extended(&first(0xD1)), Some(Refusal::Form));
+        assert_eq!(extended(&first(0xA1)), Some(Refusal::Form));
+        assert_eq!(extended(&first(0x01)), Some(Refusal::Form));
+        assert_eq!(extended(&first(0xC1)), Some(Refusal::Remote));
+        assert_eq!(extended(&first(0x80)), Some(Refusal::Count));
+        assert_eq!(extended(&first(0x82)), Some(Refusal::Count));
+    }
+
+    #[test]
+    fn extended_zeros_after_the_function_are_fixed() {
+        for low in 1..8 {
+            let image = [0x81, 0x45, 0x00, 0xC0, 0x10 | low, 0x07];
+            assert_eq!(extended(&image), Some(Refusal::Form));
+        }
+    }
+
+    #[test]
+    fn extended_count_and_length() {
+        let mut image = vec![0x89, 0x45, 0x00, 0xC0, 0x10];
+        image.resize(13, 0);
+        assert_eq!(extended(&image), Some(Refusal::Count));
+        image[0] = 0x88;
+        assert_eq!(extended(&image), None);
+        image.push(0);
+        assert_eq!(extended(&image), Some(Refusal::Length));
+        // Length comes before any bit.
+        assert_eq!(extended(&[0xFF; 14]), Some(Refusal::Length));
+        assert_eq!(extended(&[0x80, 0x45, 0x00, 0xC0]), Some(Refusal::Length));
+        assert_eq!(extended(&[]), Some(Refusal::Length));
+    }
+
+    #[test]
+    fn extended_piece_rules() {
+        for count in 0..=8 {
+            for number in 0..=63 {
+                for (flag, obeys) in [
+                    (Flag::Single, number == 0),
+                    (Flag::Start, count == 8 && number == 0),
+                    (Flag::Middle, count == 8),
+                    (Flag::End, count != 0),
+                ] {
+                    let expected = (!obeys).then_some(Refusal::Piece);
+                    let image = extended_piece(flag, count, number);
+                    assert_eq!(extended(&image), expected, "{image:02X?}");
+                }
+            }
+        }
+    }
+
+    #[test]
+    fn standard_single_of_three_bytes() {
+        let image = [0x96, 0xE3, 7, 8, 9];
+        let frame = Frame {
+            fields: Fields::Standard {
+                priority: 2,
+                address: 22,
+                side: 1,
+            },
+            flag: Flag::Single,
+            number: 0,
+            count: 3,
+            packet: &[7, 8, 9],
+        };
+        assert_eq!(judge(Format::Standard, &image), Ok(frame));
+    }
+
+    #[test]
+    fn standard_end_of_number_one() {
+        assert_eq!(
+            standard(&standard_piece(Flag::End, 2, 1)),
+            Some(Refusal::Piece)
+        );
+        let image = standard_piece(Flag::End, 3, 1);
+        let frame = judge(Format::Standard, &image).unwrap();
+        assert_eq!(frame.number, 1);
+        assert_eq!(frame.count, 3);
+        assert_eq!(frame.packet, [0x55, 0x55]);
+    }
+
+    #[test]
+    fn standard_piece_rules() {
+        for count in 0..=8 {
+            for number in 0..=255 {
+                for (flag, obeys) in [
+                    (Flag::Single, true),
+                    (Flag::Start, count == 8 && number == 0),
+                    (Flag::Middle, count == 8 && number != 0 && number != 255),
+                    (
+                        Flag::End,
+                        number != 0 && count >= 2 && !(number == 1 && count == 2),
+                    ),
+                ] {
+                    let expected = (!obeys).then_some(Refusal::Piece);
+                    let image = standard_piece(flag, count, number);
+                    assert_eq!(standard(&image), expected, "{image:02X?}");
+                }
+            }
+        }
+    }
+
+    #[test]
+    fn standard_refusals() {
+        assert_eq!(standard(&[]), Some(Refusal::Length));
+        assert_eq!(standard(&[0x96]), Some(Refusal::Length));
+        assert_eq!(standard(&[0xFF; 11]), Some(Refusal::Length));
+        assert_eq!(standard(&[0x96, 0xF3, 1, 2, 3]), Some(Refusal::Remote));
+        assert_eq!(standard(&[0x96, 0xF3]), Some(Refusal::Remote));
+        assert_eq!(standard(&[0x96, 0xE3, 1, 2]), Some(Refusal::Count));
+        assert_eq!(standard(&[0x96, 0xE9, 1]), Some(Refusal::Count));
+        assert_eq!(standard(&[0x96, 0xE0]), None);
+    }
+}
