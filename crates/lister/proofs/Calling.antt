@@ -18,6 +18,7 @@ use Rattle.packet.specs.Send.{answer}
 use Rattle.slot.specs.Sound.{sound}
 use Rattle.lister.specs.declared.Listing.{Listing}
 use Rattle.lister.specs.declared.Why.the-variants.{Refused}
+use Rattle.lister.specs.Listing as room
 use Rattle.lister.specs.Listing.{Stopped, listed, endedAs, begun, listing, after, endText, ending}
 
 pub not-true : (b : Bool) → not b ≡ true → b ≡ false
@@ -30,7 +31,7 @@ not-false false e = cc
 
 module _ (l : Listing) (store taken output : List ℕ) where
   abbrev all-of-it : Stopped
-  all-of-it = listed (length taken) (length output) (begun l store taken)
+  all-of-it = listed (length taken) (room.within output) (begun l store taken)
 
   pub at-state : not (sound Extended (l .slots)) ≡ true
       → after (record { listing = l; why = Refused State; used = 0; written = 0 }) store output ≡ listing l store taken output

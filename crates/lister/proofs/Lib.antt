@@ -2,3 +2,4 @@ mod Hearing
 mod Placing
 mod Rounds
 mod Calling
+mod InParts

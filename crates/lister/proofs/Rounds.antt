@@ -40,7 +40,7 @@ use Rattle.lister.specs.declared.Listed.{Listed}
 use Rattle.lister.specs.declared.Told.{Told}
 use Rattle.lister.specs.declared.Why.{Why}
 use Rattle.lister.specs.declared.Why.the-variants as why
-use Rattle.lister.specs.Listing.{stationOf, openedFor, heard, lineFor, next, Stand, listedOne, Reason, input, room, damage, Stopped, stopped, listedBy, listed, endedAs, begun, meaning, after}
+use Rattle.lister.specs.Listing.{stationOf, openedFor, heard, lineFor, next, Stand, listedOne, Reason, input, room, damage, Stopped, stopped, listedBy, listed, within, endedAs, begun, meaning, after}
 use Rattle.lister.specs.Parts.{Tells, Adds}
 
 -- ---- what hearing a record keeps
@@ -95,7 +95,7 @@ unfolding recordAt
 none-left rest e = rw (eq-eqb (length rest) 0 e)
 
 -- more rounds than there are bytes left change nothing
-enough : (a b space : ℕ) (s : Stand) → length (s .rest) ≤ a → length (s .rest) ≤ b → listed a space s ≡ listed b space s
+pub enough : (a b : ℕ) (space : ℕ → Bool) (s : Stand) → length (s .rest) ≤ a → length (s .rest) ≤ b → listed a space s ≡ listed b space s
 unfolding listed listedOne
 enough zero zero space s ha hb = refl
 enough zero (suc b) space s ha hb = rw (none-left (s .rest) (omega arith))
@@ -111,10 +111,10 @@ enough (suc a) (suc b) space s ha hb = go (recordAt (s .rest)) refl (λ bus imag
     go none e ih = refl
     go cut e ih = refl
     go damaged e ih = refl
-    go (whole bus image size) e ih = ap (λ (x : Stopped). cond (leb (length (s .text) + 96) space) x (stopped room s)) (ih bus image size e)
+    go (whole bus image size) e ih = ap (λ (x : Stopped). cond (space (length (s .text))) x (stopped room s)) (ih bus image size e)
 
 -- as many rounds as there are bytes left, one by one
-unrolled : (n space : ℕ) (s : Stand) → length (s .rest) ≤ n → listed n space s ≡ listedBy space s (recordAt (s .rest)) (listed (n - 1) space)
+pub unrolled : (n : ℕ) (space : ℕ → Bool) (s : Stand) → length (s .rest) ≤ n → listed n space s ≡ listedBy space s (recordAt (s .rest)) (listed (n - 1) space)
 unfolding listed
 unrolled zero space s h = sym (rw (none-left (s .rest) (omega arith)))
 unrolled (suc n) space s h = rw (sub-one (suc n))
@@ -135,8 +135,8 @@ pub record Midst (slots₀ : List Slot) (count₀ : ℕ) (store₀ taken output�
   pub in-output : written ≤ length output₀
   pub size : length output ≡ length output₀
   pub tail : drop written output ≡ drop written output₀
-  pub going : listed (length taken) (length output₀) (begun (beginning slots₀ count₀) store₀ taken)
-      ≡ listed (length taken - used) (length output₀) (stand slots store count taken used output written)
+  pub going : listed (length taken) (within output₀) (begun (beginning slots₀ count₀) store₀ taken)
+      ≡ listed (length taken - used) (within output₀) (stand slots store count taken used output written)
 
 pub midst : (slots : List Slot) (count : ℕ) (store taken output : List ℕ) → sound Extended slots ≡ true → length store ≡ 32768
     → Midst slots count store taken output slots count store output 0 0
@@ -152,9 +152,9 @@ module _ {slots₀ : List Slot} {count₀ : ℕ} {store₀ taken output₀ : Lis
   left = length-drop used taken
 
   -- what the next round does
-  next-round : listed (length taken - used) (length output₀) here
-      ≡ listedBy (length output₀) here (recordAt (drop used taken)) (listed (length taken - used - 1) (length output₀))
-  next-round = unrolled (length taken - used) (length output₀) here (omega (arith, left))
+  next-round : listed (length taken - used) (within output₀) here
+      ≡ listedBy (within output₀) here (recordAt (drop used taken)) (listed (length taken - used - 1) (within output₀))
+  next-round = unrolled (length taken - used) (within output₀) here (omega (arith, left))
 
   text-size : length (take written output) ≡ written
   text-size = length-take-le written output (omega (arith, m .in-output, m .size))
@@ -162,11 +162,11 @@ module _ {slots₀ : List Slot} {count₀ : ℕ} {store₀ taken output₀ : Lis
   abbrev Ends : Why → Type 0
   Ends w =
       after (record { listing = beginning slots count; why = w; used = used; written = written }) store output
-      ≡ endedAs (beginning slots₀ count₀) store₀ taken output₀ (value (listed (length taken) (length output₀) (begun (beginning slots₀ count₀) store₀ taken)))
+      ≡ endedAs (beginning slots₀ count₀) store₀ taken output₀ (value (listed (length taken) (within output₀) (begun (beginning slots₀ count₀) store₀ taken)))
 
   -- it stops
   stops : (w : Why) (why : Reason) → meaning w ≡ value why
-      → listedBy (length output₀) here (recordAt (drop used taken)) (listed (length taken - used - 1) (length output₀)) ≡ stopped why here → Ends w
+      → listedBy (within output₀) here (recordAt (drop used taken)) (listed (length taken - used - 1) (within output₀)) ≡ stopped why here → Ends w
   stops w why e q =
       let used-is : length taken - length (drop used taken) ≡ used = omega (arith, left, m .in-input) in
       let output-is : take written output ++ drop (length (take written output)) output₀ ≡ output =
@@ -195,8 +195,8 @@ module _ {slots₀ : List Slot} {count₀ : ℕ} {store₀ taken output₀ : Lis
 
     -- its line has room
     this : 96 ≤ length output - written
-        → listedBy (length output₀) here (recordAt (drop used taken)) (listed (length taken - used - 1) (length output₀))
-        ≡ listed (length taken - used - 1) (length output₀) (listedOne here bus image size)
+        → listedBy (within output₀) here (recordAt (drop used taken)) (listed (length taken - used - 1) (within output₀))
+        ≡ listed (length taken - used - 1) (within output₀) (listedOne here bus image size)
     this h =
         let n : length (take written output) + 96 ≤ length output₀ = omega (arith, text-size, m .size, m .in-output, h) in
         rw (← e, le-leb (length (take written output) + 96) (length output₀) n)
@@ -227,7 +227,7 @@ module _ {slots₀ : List Slot} {count₀ : ℕ} {store₀ taken output₀ : Lis
           size = add .size ∙ m .size;
           tail = add .tail ∙ further r (length (lineText (t .line))) (add .place);
           going = m .going ∙ next-round ∙ this h ∙ enough _ _ _ _ (omega (arith, rest-left, fits .0)) (omega (arith, rest-left))
-              ∙ ap (listed (length taken - (used + size)) (length output₀)) (λ i. record { slots = sym (tell .slots′) i; store = sym (tell .store′) i; count = sym eo i; rest = sym rest-is i; text = sym text-is i });
+              ∙ ap (listed (length taken - (used + size)) (within output₀)) (λ i. record { slots = sym (tell .slots′) i; store = sym (tell .store′) i; count = sym eo i; rest = sym rest-is i; text = sym text-is i });
         }
 
 -- ---- what the code reads

@@ -89,18 +89,22 @@ pub record Stopped : Type 0 where
 abbrev pub stopped : Reason → Stand → Stopped
 stopped why s = record { why = why; stand = s }
 
--- a whole record is listed, and then what follows it; the longest line has 96 bytes at most
-abbrev pub listedBy : (space : ℕ) → Stand → Found → (Stand → Stopped) → Stopped
+-- a whole record is listed, and then what follows it, where there is room for a line after so many bytes of text
+abbrev pub listedBy : (space : ℕ → Bool) → Stand → Found → (Stand → Stopped) → Stopped
 listedBy space s none following = stopped input s
 listedBy space s cut following = stopped input s
 listedBy space s damaged following = stopped damage s
 listedBy space s (whole bus image size) following =
-    cond (leb (length (s .text) + 96) space) (following (listedOne s bus image size)) (stopped room s)
+    cond (space (length (s .text))) (following (listedOne s bus image size)) (stopped room s)
 
 -- one after the other. Each takes some of the input, so that as many rounds as it has bytes are enough
-unfoldable pub listed : (rounds space : ℕ) → Stand → Stopped
+unfoldable pub listed : (rounds : ℕ) (space : ℕ → Bool) → Stand → Stopped
 listed zero space s = stopped input s
 listed (suc rounds) space s = listedBy space s (recordAt (s .rest)) (listed rounds space)
+
+-- the longest line has 96 bytes at most
+abbrev pub within : (output : List ℕ) → ℕ → Bool
+within output n = leb (n + 96) (length output)
 
 -- ---- the call
 
@@ -136,7 +140,7 @@ unfoldable pub listing : Listing → (store taken output : List ℕ) → Ended
 listing l store taken output =
     endedAs l store taken output
     (guarded (check State (soundStation (stationOf (l .slots))) ∷ check Store (fullSize store) ∷ [])
-    (listed (length taken) (length output) (begun l store taken)))
+    (listed (length taken) (within output) (begun l store taken)))
 
 -- what the code hands back, and the store and the output afterwards, say
 abbrev pub meaning : Why → Result Reason

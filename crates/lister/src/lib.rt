@@ -33,7 +33,7 @@ ghost use Rattle.slot.specs.Slots.{openSlot};
 ghost use Rattle.slot.specs.Sound.{sound};
 ghost use Rattle.station.specs.Receive.{keyOf, progressIn, afterTurn};
 ghost use Rattle.station.specs.Parts.{frameOf, Steps};
-ghost use Rattle.lister.specs.Listing.{newListing, stationOf, heard, listed, begun, endedAs, listing, after, endText, ending};
+ghost use Rattle.lister.specs.Listing.{newListing, stationOf, heard, listed, within, begun, endedAs, listing, after, endText, ending};
 ghost use Rattle.trace.specs.Lines.{lineText, lineInRange};
 ghost use Rattle.lister.specs.Parts.{Heads, Tells, Adds};
 
@@ -241,7 +241,7 @@ fn ended(slots: [Slot; 16], count: u64, why: Why, used: usize, written: usize) -
 // Lists what stands in the input, in sound slots and with a full-size store.
 fn list_all(listing: Listing, store: &mut [u8], input: &[u8], output: &mut [u8]) -> Listed
     requires { ⌜ (sound Extended (listing .slots) ≡ true) × (length (now store) ≡ 32768) ⌝ }
-    ensures { λ r. ⌜ after r (now (store .exit)) (now (output .exit)) ≡ endedAs listing (now (store .entry)) (now (input .entry)) (now (output .entry)) (value (listed (length (now (input .entry))) (length (now (output .entry))) (begun listing (now (store .entry)) (now (input .entry))))) ⌝ }
+    ensures { λ r. ⌜ after r (now (store .exit)) (now (output .exit)) ≡ endedAs listing (now (store .entry)) (now (input .entry)) (now (output .entry)) (value (listed (length (now (input .entry))) (within (now (output .entry))) (begun listing (now (store .entry)) (now (input .entry))))) ⌝ }
 {
     let mut slots = listing.slots;
     let mut count = listing.count;

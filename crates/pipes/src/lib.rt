@@ -7,12 +7,16 @@ ghost use Prim.Native.Nat.{_-_, _≤_};
 ghost use lib.ListN.{length, take, drop};
 
 // Reads once, after the first held bytes of the input, and answers how many are held then: no more
-// than before at the input's end, or where the read fails.
+// than before at the input's end. A read that fails counts as the end, and standard error says why.
 pub fn read_on(input: &mut [u8], held: usize) -> usize {
     if held > input.len() {
         return held;
     }
     let got = libc::read(STDIN_FILENO, &mut input[held..]);
+    if got < 0 {
+        os::fail(b"standard input");
+        return held;
+    }
     let n = io::count(got, &input[held..]);
     held + n
 }

@@ -1,0 +1,169 @@
+-- What is listed does not depend on the parts that the input arrives in.
+use Prim.Native.Nat.{ℕ, zero, suc, _+_, _-_, _≤_}
+use mathlib.Core.Path.{_≡_, refl, sym, ap, _∙_}
+use mathlib.Core.Logic.{_≢_}
+use mathlib.Core.Bool.{Bool, true, false, cond}
+use mathlib.Core.List.{List, [], _∷_, _++_, append-assoc, append-nil}
+use native.Mathlib.Omega.{arith}
+use lib.ListN.{length, take, drop, length-append, length-drop}
+use lib.Seq.{drop-append-le}
+use Rattle.format.specs.declared.Format.the-variants.{Extended}
+use Rattle.format.specs.declared.Refusal.{Refusal}
+use Rattle.format.specs.Claims.{OneNumber}
+use Rattle.format.specs.Refusals.{number}
+use Rattle.format.proofs.Numbers.{one-number}
+use Rattle.frame.specs.Judge.{judge}
+use Rattle.trace.specs.Records.{Found, whole, damaged, cut, none, recordAt}
+use Rattle.trace.specs.Claims.{Sized, Arriving}
+use Rattle.trace.proofs.Arriving.{sized, arriving}
+use Rattle.lister.specs.declared.Why.{Why}
+use Rattle.lister.specs.declared.Why.the-variants as why
+use Rattle.lister.specs.Listing.{newListing, stationOf, heard, lineFor, next, Stand, listedOne, room, Stopped, stopped, listedBy, listed, within, begun, meaning}
+use Rattle.lister.specs.Claims.{everything, program, printed, Part, arrived, listingAt, inParts, InParts, Printed, OneWhy}
+use Rattle.lister.proofs.Rounds.{enough, unrolled}
+
+abbrev always : ℕ → Bool
+always n = true
+
+-- with more of the input; with a text in front
+abbrev plus : Stand → List ℕ → Stand
+plus s more = record { slots = s .slots; store = s .store; count = s .count; rest = s .rest ++ more; text = s .text }
+
+abbrev behind : List ℕ → Stand → Stand
+behind t s = record { slots = s .slots; store = s .store; count = s .count; rest = s .rest; text = t ++ s .text }
+
+abbrev all-behind : List ℕ → Stopped → Stopped
+all-behind t r = stopped (r .why) (behind t (r .stand))
+
+-- ---- what has been written plays no part
+
+one-behind : (t : List ℕ) (s : Stand) (bus : ℕ) (image : List ℕ) (size : ℕ) → listedOne (behind t s) bus image size ≡ behind t (listedOne s bus image size)
+unfolding listedOne
+one-behind t s bus image size =
+    let r = heard (stationOf (s .slots)) (s .store) bus image in
+    ap (λ (x : List ℕ). record { slots = r .station .slots; store = r .store; count = next (s .count); rest = drop size (s .rest); text = x })
+    (append-assoc t (s .text) (lineFor (next (s .count)) bus (judge Extended image) (r .answer)))
+
+listed-behind : (t : List ℕ) (n : ℕ) (s : Stand) → listed n always (behind t s) ≡ all-behind t (listed n always s)
+unfolding listed
+listed-behind t zero s = refl
+listed-behind t (suc n) s = go (recordAt (s .rest)) (λ s′. listed-behind t n s′)
+  where
+    go : (f : Found) → ((s′ : Stand) → listed n always (behind t s′) ≡ all-behind t (listed n always s′))
+        → listedBy always (behind t s) f (listed n always) ≡ all-behind t (listedBy always s f (listed n always))
+    go none ih = refl
+    go cut ih = refl
+    go damaged ih = refl
+    go (whole bus image size) ih = ap (listed n always) (one-behind t s bus image size) ∙ ih (listedOne s bus image size)
+
+-- ---- a record that is whole is listed first
+
+once : (s : Stand) (bus : ℕ) (image : List ℕ) (size : ℕ) → recordAt (s .rest) ≡ whole bus image size → everything s ≡ everything (listedOne s bus image size)
+unfolding listedOne Sized
+once s bus image size e =
+    let z = sized (s .rest) bus image size e in
+    let n = length-drop size (s .rest) in
+    unrolled (length (s .rest)) always s (omega arith)
+    ∙ ap (λ (f : Found). listedBy always s f (listed (length (s .rest) - 1) always)) e
+    ∙ enough (length (s .rest) - 1) (length (drop size (s .rest))) always (listedOne s bus image size) (omega (arith, z .0, z .1)) (omega arith)
+
+one-plus : (s : Stand) (more : List ℕ) (bus : ℕ) (image : List ℕ) (size : ℕ) → size ≤ length (s .rest)
+    → listedOne (plus s more) bus image size ≡ plus (listedOne s bus image size) more
+unfolding listedOne
+one-plus s more bus image size h =
+    let r = heard (stationOf (s .slots)) (s .store) bus image in
+    ap (λ (x : List ℕ). record {
+      slots = r .station .slots;
+      store = r .store;
+      count = next (s .count);
+      rest = x;
+      text = s .text ++ lineFor (next (s .count)) bus (judge Extended image) (r .answer);
+    }) (drop-append-le size (s .rest) more h)
+
+whole-stays : (s : Stand) (more : List ℕ) (bus : ℕ) (image : List ℕ) (size : ℕ) → recordAt (s .rest) ≡ whole bus image size
+    → recordAt (s .rest ++ more) ≡ whole bus image size
+unfolding Arriving
+whole-stays s more bus image size e = arriving (s .rest) more not-cut not-none ∙ e
+  where
+    not-cut : recordAt (s .rest) ≢ cut
+    not-cut q = let y : _≡_ {A = ℕ} 0 1 = cc in omega arith
+
+    not-none : recordAt (s .rest) ≢ none
+    not-none q = let y : _≡_ {A = ℕ} 0 1 = cc in omega arith
+
+-- ---- what a call has listed, and then the rest, is everything
+
+at-whole : (b : Bool) (n : ℕ) (space : ℕ → Bool) (s : Stand) (more : List ℕ) (bus : ℕ) (image : List ℕ) (size : ℕ) → recordAt (s .rest) ≡ whole bus image size
+    → ((s′ : Stand) → everything (plus s′ more) ≡ everything (plus (listed n space s′ .stand) more))
+    → everything (plus s more) ≡ everything (plus (cond b (listed n space (listedOne s bus image size)) (stopped room s) .stand) more)
+unfolding Sized
+at-whole true n space s more bus image size e ih =
+    once (plus s more) bus image size (whole-stays s more bus image size e)
+    ∙ ap everything (one-plus s more bus image size (sized (s .rest) bus image size e .1))
+    ∙ ih (listedOne s bus image size)
+at-whole false n space s more bus image size e ih = refl
+
+go-on : (n : ℕ) (space : ℕ → Bool) (s : Stand) (more : List ℕ) → everything (plus s more) ≡ everything (plus (listed n space s .stand) more)
+unfolding listed
+go-on zero space s more = refl
+go-on (suc n) space s more = go (recordAt (s .rest)) refl (λ s′. go-on n space s′ more)
+  where
+    go : (f : Found) → recordAt (s .rest) ≡ f → ((s′ : Stand) → everything (plus s′ more) ≡ everything (plus (listed n space s′ .stand) more))
+        → everything (plus s more) ≡ everything (plus (listedBy space s f (listed n space) .stand) more)
+    go none e ih = refl
+    go cut e ih = refl
+    go damaged e ih = refl
+    go (whole bus image size) e ih = at-whole (space (length (s .text))) n space s more bus image size e ih
+
+pub in-parts : InParts
+unfolding InParts inParts
+in-parts s [] = ap (λ (l : List ℕ). everything (record { slots = s .slots; store = s .store; count = s .count; rest = l; text = s .text })) (append-nil (s .rest))
+in-parts s (part ∷ parts) =
+    let taken = s .rest ++ part .bytes in
+    let first = begun (listingAt s) (s .store) taken in
+    let r = listed (length taken) (within (part .output)) first .stand in
+    let more = arrived parts in
+    ap (λ (l : List ℕ). everything (record { slots = s .slots; store = s .store; count = s .count; rest = l; text = s .text })) (sym (append-assoc (s .rest) (part .bytes) more))
+    ∙ ap (λ (l : List ℕ). everything (record { slots = s .slots; store = s .store; count = s .count; rest = taken ++ more; text = l })) (sym (append-nil (s .text)))
+    ∙ listed-behind (s .text) (length (taken ++ more)) (plus first more)
+    ∙ ap (all-behind (s .text)) (go-on (length taken) (within (part .output)) first more)
+    ∙ sym (listed-behind (s .text) (length (r .rest ++ more)) (plus r more))
+    ∙ in-parts (behind (s .text) r) parts
+
+-- ---- when no whole record is left
+
+at-end : (s : Stand) → ((bus : ℕ) (image : List ℕ) (size : ℕ) → recordAt (s .rest) ≢ whole bus image size) → everything s .stand ≡ s
+at-end s h = ap (λ (x : Stopped). x .stand) (unrolled (length (s .rest)) always s (omega arith)) ∙ go (recordAt (s .rest)) refl
+  where
+    go : (f : Found) → recordAt (s .rest) ≡ f → listedBy always s f (listed (length (s .rest) - 1) always) .stand ≡ s
+    go none e = refl
+    go cut e = refl
+    go damaged e = refl
+    go (whole bus image size) e = absurd (h bus image size e)
+
+pub printed-so : Printed
+unfolding Printed InParts program
+printed-so store parts h =
+    let s = inParts (begun newListing store []) parts in
+    ap (λ (x : Stopped). printed (x .stand)) (in-parts (begun newListing store []) parts) ∙ ap printed (at-end s h)
+
+-- ---- the answer
+
+pub one-why : OneWhy
+unfolding OneWhy OneNumber
+one-why why.Input why.Input e = refl
+one-why why.Input why.Room e = cc
+one-why why.Input why.Damaged e = cc
+one-why why.Input (why.Refused name) e = cc
+one-why why.Room why.Input e = cc
+one-why why.Room why.Room e = refl
+one-why why.Room why.Damaged e = cc
+one-why why.Room (why.Refused name) e = cc
+one-why why.Damaged why.Input e = cc
+one-why why.Damaged why.Room e = cc
+one-why why.Damaged why.Damaged e = refl
+one-why why.Damaged (why.Refused name) e = cc
+one-why (why.Refused name) why.Input e = cc
+one-why (why.Refused name) why.Room e = cc
+one-why (why.Refused name) why.Damaged e = cc
+one-why (why.Refused a) (why.Refused b) e = let n : number a ≡ number b = cc in ap why.Refused (one-number a b n)
