@@ -1,6 +1,6 @@
 -- A line written at a place of the output that has room for the longest.
 use Prim.Native.Nat.{ℕ, _+_, _-_, _≤_, _<_}
-use mathlib.Core.Path.{_≡_, refl, sym, ap, _∙_}
+use mathlib.Core.Path.{_≡_, refl, sym, ap, subst, _∙_}
 use mathlib.Core.Bool.{true}
 use mathlib.Core.List.{List, [], _∷_, _++_, append-assoc, append-nil}
 use native.Mathlib.Omega.{arith}
@@ -85,6 +85,10 @@ adds-then {a} {b} {output} {mid} {last} {at} {m} {r} p q =
   where
     further : drop r mid ≡ drop r output
     further = rw (q .place, ← drop-drop (length b) m mid, p .tail) (drop-drop (length b) m output)
+
+-- the same text, named otherwise
+pub adds-as : {a b output last : List ℕ} {at r : ℕ} → Adds a output at r last → a ≡ b → Adds b output at r last
+adds-as {a} {b} {output} {last} {at} {r} p e = subst (λ (x : List ℕ). Adds x output at r last) e p
 
 -- a whole text: where it ends, and that it stands in the buffer
 module _ {bytes text last : List ℕ} {r : ℕ} (p : Adds bytes text 0 r last) where

@@ -30,7 +30,7 @@ use Rattle.station.proofs.Soundness.{stays}
 use Rattle.station.proofs.Turning.{rest-is}
 use Rattle.trace.specs.declared.Entry.{Entry}
 use Rattle.trace.specs.Records as records
-use Rattle.trace.specs.Records.{Found, whole, damaged, cut, none, recordAt}
+use Rattle.trace.specs.Records.{Found, whole, damaged, cut, none, imageIn, recordAt}
 use Rattle.trace.specs.Lines.{lineText}
 use Rattle.trace.specs.Claims.{Sized, Longest}
 use Rattle.trace.proofs.Arriving.{sized}
@@ -240,7 +240,13 @@ seen taken used entry x e ex =
     ∙ subst (λ (l : List ℕ). records.meaning entry l ≡ recordAt l) (rest-is taken used) e
 
 -- the image
-pub image-is : (taken : List ℕ) (used size : ℕ) → take (used + size - (used + 4)) (drop (used + 4) taken) ≡ take (size - 4) (drop 4 (drop used taken))
+image-is : (taken : List ℕ) (used size : ℕ) → take (used + size - (used + 4)) (drop (used + 4) taken) ≡ imageIn size (drop used taken)
 image-is taken used size =
     let n : used + size - (used + 4) ≡ size - 4 = omega arith in
     rw (n, drop-drop 4 used taken)
+
+pub told-of : (taken : List ℕ) (used size : ℕ) {slots : List Slot} {store : List ℕ} {ordinal bus : ℕ} {r : Told} {last : List ℕ}
+    → Tells slots store ordinal bus (take (used + size - (used + 4)) (drop (used + 4) taken)) r last
+    → Tells slots store ordinal bus (imageIn size (drop used taken)) r last
+told-of taken used size {slots} {store} {ordinal} {bus} {r} {last} t =
+    subst (λ (image : List ℕ). Tells slots store ordinal bus image r last) (image-is taken used size) t

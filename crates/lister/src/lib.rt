@@ -9,9 +9,10 @@ use frame::judge;
 use slot::Key;
 use slot::Occupancy;
 use slot::Slot;
-use slot::Stream;
 use station::Store;
 use station::Turn;
+use station::open_slot;
+use station::progress_in;
 use stream::Answer;
 use stream::Area;
 use stream::Progress;
@@ -31,7 +32,7 @@ ghost use Rattle.packet.specs.Send.{after as over·after};
 ghost use Rattle.frame.specs.Judge.{judge as judge·of};
 ghost use Rattle.slot.specs.Slots.{openSlot};
 ghost use Rattle.slot.specs.Sound.{sound};
-ghost use Rattle.station.specs.Receive.{keyOf, progressIn, afterTurn};
+ghost use Rattle.station.specs.Receive.{keyOf, afterTurn};
 ghost use Rattle.station.specs.Parts.{frameOf, Steps};
 ghost use Rattle.lister.specs.Listing.{newListing, stationOf, heard, listed, within, begun, endedAs, listing, after, endText, ending};
 ghost use Rattle.trace.specs.Lines.{lineText, lineInRange};
@@ -70,27 +71,6 @@ struct Told {
     at: usize,
     slot: Slot,
     line: Line,
-}
-
-fn progress_in(occupancy: Occupancy) -> Progress
-    ensures { λ r. ⌜ r ≡ progressIn occupancy ⌝ }
-{
-    match occupancy {
-        Occupancy::Closed => Progress::Idle,
-        Occupancy::Open(stream) => stream.progress,
-    }
-}
-
-fn open_slot(key: Key, progress: Progress) -> Slot
-    ensures { λ r. ⌜ r ≡ openSlot key progress ⌝ }
-{
-    let stream = Stream {
-        key: key,
-        progress: progress,
-    };
-    Slot {
-        occupancy: Occupancy::Open(stream),
-    }
 }
 
 // The stream of slot i, of that progress, steps on its area.

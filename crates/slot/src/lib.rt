@@ -311,14 +311,14 @@ fn open_with(key: Key, occupancy: Occupancy) -> bool
 pub fn find(slots: [Slot; 16], key: Key) -> usize
     ensures { λ r. ⌜ r ≡ place (hasKey key) slots ⌝ }
 {
-    let mut at: usize = 0;
-    while at < 16 {
-        let slot = slots[at];
+    let mut k: usize = 0;
+    while k < 16 {
+        let slot = slots[k];
         let occupancy = slot.occupancy;
         if open_with(key, occupancy) {
-            return at;
+            return k;
         }
-        at += 1;
+        k += 1;
     }
     16
 }

@@ -60,7 +60,8 @@ pub struct Changed {
     pub answer: Outcome,
 }
 
-fn progress_in(occupancy: Occupancy) -> Progress
+// The progress of an open slot; Idle for a closed one, which has none.
+pub fn progress_in(occupancy: Occupancy) -> Progress
     ensures { λ r. ⌜ r ≡ progressIn occupancy ⌝ }
 {
     match occupancy {
@@ -69,7 +70,8 @@ fn progress_in(occupancy: Occupancy) -> Progress
     }
 }
 
-fn open_slot(key: Key, progress: Progress) -> Slot
+// A slot that is open with a key, so far.
+pub fn open_slot(key: Key, progress: Progress) -> Slot
     ensures { λ r. ⌜ r ≡ openSlot key progress ⌝ }
 {
     let stream = Stream {

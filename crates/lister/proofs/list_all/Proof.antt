@@ -3,7 +3,7 @@ use borrow.Author.Needs.{needs}
 use Prim.Native.Nat.{_-_}
 use lib.ListN.{length, length-drop}
 use native.Mathlib.Omega.{arith}
-use Rattle.lister.proofs.Rounds.{Midst, midst, stops-empty, stops-cut, stops-damaged, stops-room, fits, goes-on, seen, image-is}
+use Rattle.lister.proofs.Rounds.{Midst, midst, stops-empty, stops-cut, stops-damaged, stops-room, fits, goes-on, seen, told-of}
 use Rattle.lister.proofs.list_all.Statement.{statement}
 use Rattle.lister.proofs.list_all.Tie as tie
 
@@ -20,36 +20,28 @@ loop-holds c =
     let g = c .before .before .before .before in let a = g .args in midst (a .listing .slots) (a .listing .count) (a .store .now) (a .input .now) (a .output .now) (g .pre .0) (g .pre .1)
 
 sub-read-record : tie.Need-sub-read-record Inv-loop μ-loop
-sub-read-record c =
-    search needs
+sub-read-record c = search needs
 
 part-read-record-start : tie.Need-part-read-record-start Inv-loop μ-loop
-part-read-record-start c =
-    search needs
+part-read-record-start c = search needs
 
 part-read-record-end : tie.Need-part-read-record-end Inv-loop μ-loop
-part-read-record-end c =
-    search needs
+part-read-record-end c = search needs
 
 read-record-requires : tie.Need-read-record-requires Inv-loop μ-loop
-read-record-requires c κs =
-    search needs
+read-record-requires c κs = search needs
 
 enum-told : tie.Need-enum-told Inv-loop μ-loop
-enum-told c =
-    search needs
+enum-told c = search needs
 
 ended-requires : tie.Need-ended-requires Inv-loop μ-loop
-ended-requires c κs =
-    search needs
+ended-requires c κs = search needs
 
 same-length : tie.Need-same-length Inv-loop μ-loop
-same-length c =
-    search needs
+same-length c = search needs
 
 same-length-2 : tie.Need-same-length-2 Inv-loop μ-loop
-same-length-2 c =
-    search needs
+same-length-2 c = search needs
 
 returns : tie.Need-returns Inv-loop μ-loop
 returns c =
@@ -57,20 +49,16 @@ returns c =
     rw (c .ended .ensures) (stops-empty (l .inv) (seen (a .input .now) (l .used) _ _ (c .before .before .before .read-record .ensures) (c .before .enum-told .given .1)))
 
 enum-told-2 : tie.Need-enum-told-2 Inv-loop μ-loop
-enum-told-2 c =
-    search needs
+enum-told-2 c = search needs
 
 ended-requires-2 : tie.Need-ended-requires-2 Inv-loop μ-loop
-ended-requires-2 c κs =
-    search needs
+ended-requires-2 c κs = search needs
 
 same-length-3 : tie.Need-same-length-3 Inv-loop μ-loop
-same-length-3 c =
-    search needs
+same-length-3 c = search needs
 
 same-length-4 : tie.Need-same-length-4 Inv-loop μ-loop
-same-length-4 c =
-    search needs
+same-length-4 c = search needs
 
 returns-2 : tie.Need-returns-2 Inv-loop μ-loop
 returns-2 c =
@@ -78,20 +66,16 @@ returns-2 c =
     rw (c .ended2 .ensures) (stops-cut (l .inv) (seen (a .input .now) (l .used) _ _ (c .before .before .before .read-record .ensures) (c .before .enum-told2 .given .1)))
 
 enum-told-3 : tie.Need-enum-told-3 Inv-loop μ-loop
-enum-told-3 c =
-    search needs
+enum-told-3 c = search needs
 
 ended-requires-3 : tie.Need-ended-requires-3 Inv-loop μ-loop
-ended-requires-3 c κs =
-    search needs
+ended-requires-3 c κs = search needs
 
 same-length-5 : tie.Need-same-length-5 Inv-loop μ-loop
-same-length-5 c =
-    search needs
+same-length-5 c = search needs
 
 same-length-6 : tie.Need-same-length-6 Inv-loop μ-loop
-same-length-6 c =
-    search needs
+same-length-6 c = search needs
 
 returns-3 : tie.Need-returns-3 Inv-loop μ-loop
 returns-3 c =
@@ -99,24 +83,19 @@ returns-3 c =
     rw (c .ended3 .ensures) (stops-damaged (l .inv) (seen (a .input .now) (l .used) _ _ (c .before .before .before .read-record .ensures) (c .before .enum-told3 .given .1)))
 
 enum-known-bus : tie.Need-enum-known-bus Inv-loop μ-loop
-enum-known-bus c =
-    search needs
+enum-known-bus c = search needs
 
 sub-if1 : tie.Need-sub-if1 Inv-loop μ-loop
-sub-if1 c =
-    search needs
+sub-if1 c = search needs
 
 ended-requires-4 : tie.Need-ended-requires-4 Inv-loop μ-loop
-ended-requires-4 c κs =
-    search needs
+ended-requires-4 c κs = search needs
 
 same-length-7 : tie.Need-same-length-7 Inv-loop μ-loop
-same-length-7 c =
-    search needs
+same-length-7 c = search needs
 
 same-length-8 : tie.Need-same-length-8 Inv-loop μ-loop
-same-length-8 c =
-    search needs
+same-length-8 c = search needs
 
 returns-4 : tie.Need-returns-4 Inv-loop μ-loop
 returns-4 c =
@@ -125,12 +104,10 @@ returns-4 c =
     rw (c .ended4 .ensures) (stops-room (l .inv) _ _ _ e (c .before .if1 .taken))
 
 wrapping-add-u64-requires : tie.Need-wrapping-add-u64-requires Inv-loop μ-loop
-wrapping-add-u64-requires c κs =
-    search needs
+wrapping-add-u64-requires c κs = search needs
 
 add-from : tie.Need-add-from Inv-loop μ-loop
-add-from c =
-    search needs
+add-from c = search needs
 
 add-to : tie.Need-add-to Inv-loop μ-loop
 add-to c =
@@ -163,16 +140,13 @@ tell-requires c κs =
     let f = fits (l .inv) _ _ _ e in let n = length-drop (l .used) (a .input .now) in (l .inv .ok, l .inv .full, f .2)
 
 put-line-requires : tie.Need-put-line-requires Inv-loop μ-loop
-put-line-requires c κs =
-    search needs
+put-line-requires c κs = search needs
 
 mul-slots : tie.Need-mul-slots Inv-loop μ-loop
-mul-slots c =
-    search needs
+mul-slots c = search needs
 
 array-set-from-slots : tie.Need-array-set-from-slots Inv-loop μ-loop
-array-set-from-slots c =
-    search needs
+array-set-from-slots c = search needs
 
 loop-less : tie.Need-loop-less Inv-loop μ-loop
 loop-less c =
@@ -186,8 +160,7 @@ loop-again c =
     let e = seen (a .input .now) (l .used) _ _ (c .before .before .before .before .before .before .before .before .before .before .before .before .before .before .before .read-record .ensures) (c .before .before .before .before .before .before .before .before .before .before .before .before .before .bus .given .1) in
     let size = c .before .before .before .before .before .before .before .before .before .before .before .before .before .bus .given .0 .1 .0 in
     let t = c .before .before .before .before .before .before .before .tell in
-    let told = rw (image-is (a .input .now) (l .used) size) at (t .ensures) in
-    goes-on (l .inv) _ size _ e (c .before .before .before .before .before .before .before .before .before .before .before .if1 .left) _ (c .before .before .before .before .before .before .before .before .before .before .wrapping-add-u64 .ensures) (t .result) _ told _ _ (c .before .before .before .put-line .ensures)
+    goes-on (l .inv) _ size _ e (c .before .before .before .before .before .before .before .before .before .before .before .if1 .left) _ (c .before .before .before .before .before .before .before .before .before .before .wrapping-add-u64 .ensures) (t .result) _ (told-of (a .input .now) (l .used) size (t .ensures)) _ _ (c .before .before .before .put-line .ensures)
 
 pub list-all-spec : {M : Type 1} → statement M
 list-all-spec =

@@ -29,12 +29,10 @@ hear-requires c κs =
     let g = c .before .before .before .before .before .before .before in (g .pre .0, g .pre .1, g .pre .2, headed c)
 
 sub-count : tie.Need-sub-count
-sub-count c =
-    headed (c .before .before .before .before) .start
+sub-count c = headed (c .before .before .before .before) .start
 
 cast-count : tie.Need-cast-count
-cast-count c =
-    omega (arith, headed (c .before .before .before .before) .most)
+cast-count c = omega (arith, headed (c .before .before .before .before) .most)
 
 returns : tie.Need-returns
 returns c =

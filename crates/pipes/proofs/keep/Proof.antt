@@ -14,40 +14,32 @@ abbrev μ-loop : tie.MeasureT-loop
 μ-loop input₀ at held to₀ from₀ input to from = held - from
 
 returns : tie.Need-returns Inv-loop μ-loop
-returns c =
-    (omega arith, (λ h. absurd (omega arith), refl))
+returns c = (omega arith, (λ h. absurd (omega arith), refl))
 
 loop-holds : tie.Need-loop-holds Inv-loop μ-loop
 loop-holds c =
     let a = c .before .args in none-moved (a .input .now) (a .at) (a .held)
 
 slice-read-input : tie.Need-slice-read-input Inv-loop μ-loop
-slice-read-input c =
-    omega (arith, c .before .before .loop .inv .size)
+slice-read-input c = omega (arith, c .before .before .loop .inv .size)
 
 slice-write-input : tie.Need-slice-write-input Inv-loop μ-loop
-slice-write-input c =
-    omega (arith, c .before .before .loop .inv .size, c .before .before .loop .inv .place)
+slice-write-input c = omega (arith, c .before .before .loop .inv .size, c .before .before .loop .inv .place)
 
 add-to : tie.Need-add-to Inv-loop μ-loop
-add-to c =
-    omega (arith, c .before .before .loop .inv .place)
+add-to c = omega (arith, c .before .before .loop .inv .place)
 
 add-from : tie.Need-add-from Inv-loop μ-loop
-add-from c =
-    search needs
+add-from c = search needs
 
 loop-less : tie.Need-loop-less Inv-loop μ-loop
-loop-less c =
-    search needs
+loop-less c = search needs
 
 loop-again : tie.Need-loop-again Inv-loop μ-loop
-loop-again c =
-    one-moved (c .before .before .loop .inv) (c .before .loop-test .taken) (c .before .before .before .if1 .left)
+loop-again c = one-moved (c .before .before .loop .inv) (c .before .loop-test .taken) (c .before .before .before .if1 .left)
 
 same-length : tie.Need-same-length Inv-loop μ-loop
-same-length c =
-    c .before .loop .inv .size
+same-length c = c .before .loop .inv .size
 
 returns-2 : tie.Need-returns-2 Inv-loop μ-loop
 returns-2 c =

@@ -19,8 +19,7 @@ returns c = search needs
 
 returns-2 : tie.Need-returns-2
 unfolding sameKey all allAfter
-returns-2 c =
-    simp (c .before .before .before .before .before .occupancy .given .1, c .same-fields .ensures)
+returns-2 c = simp (c .before .before .before .before .before .occupancy .given .1, c .same-fields .ensures)
 
 pub open-with-spec : {M : Type 1} → statement M
 open-with-spec =

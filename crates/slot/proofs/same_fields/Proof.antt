@@ -25,23 +25,19 @@ enum-known-b-2 c = search needs
 
 returns : tie.Need-returns
 unfolding sameFields all allAfter
-returns c =
-    simp (c .before .before .before .before .a .given .1, c .before .b .given .1)
+returns c = simp (c .before .before .before .before .a .given .1, c .before .b .given .1)
 
 returns-2 : tie.Need-returns-2
 unfolding sameFields
-returns-2 c =
-    simp (c .before .before .before .a .given .1, c .enum-told .given .1)
+returns-2 c = simp (c .before .before .before .a .given .1, c .enum-told .given .1)
 
 returns-3 : tie.Need-returns-3
 unfolding sameFields
-returns-3 c =
-    simp (c .before .before .before .a2 .given .1, c .enum-told2 .given .1)
+returns-3 c = simp (c .before .before .before .a2 .given .1, c .enum-told2 .given .1)
 
 returns-4 : tie.Need-returns-4
 unfolding sameFields all allAfter
-returns-4 c =
-    simp (c .before .before .before .before .a2 .given .1, c .before .b2 .given .1)
+returns-4 c = simp (c .before .before .before .before .a2 .given .1, c .before .b2 .given .1)
 
 pub same-fields-spec : {M : Type 1} → statement M
 same-fields-spec =

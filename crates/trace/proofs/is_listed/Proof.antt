@@ -16,8 +16,7 @@ enum-told-2 : tie.Need-enum-told-2
 enum-told-2 c = search needs
 
 returns : tie.Need-returns
-returns c =
-    c .in-range .ensures ∙ ap inRange (c .before .enum-told .given .1) ∙ ap listed (sym (c .before .enum-told .given .1))
+returns c = c .in-range .ensures ∙ ap inRange (c .before .enum-told .given .1) ∙ ap listed (sym (c .before .enum-told .given .1))
 
 returns-2 : tie.Need-returns-2
 returns-2 c = search needs

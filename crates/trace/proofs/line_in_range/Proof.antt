@@ -25,28 +25,23 @@ enum-told-3 c = search needs
 
 returns : tie.Need-returns
 unfolding lineInRange
-returns c =
-    rw (c .enum-told .given .1)
+returns c = rw (c .enum-told .given .1)
 
 returns-2 : tie.Need-returns-2
 unfolding lineInRange all allAfter
-returns-2 c =
-    rw (c .before .before .line .given .1, c .is-listed .ensures)
+returns-2 c = rw (c .before .before .line .given .1, c .is-listed .ensures)
 
 returns-3 : tie.Need-returns-3
 unfolding lineInRange
-returns-3 c =
-    rw (c .before .line2 .given .1)
+returns-3 c = rw (c .before .line2 .given .1)
 
 returns-4 : tie.Need-returns-4
 unfolding lineInRange
-returns-4 c =
-    rw (c .enum-told2 .given .1)
+returns-4 c = rw (c .enum-told2 .given .1)
 
 returns-5 : tie.Need-returns-5
 unfolding lineInRange
-returns-5 c =
-    rw (c .enum-told3 .given .1)
+returns-5 c = rw (c .enum-told3 .given .1)
 
 pub line-in-range-spec : {M : Type 1} → statement M
 line-in-range-spec =

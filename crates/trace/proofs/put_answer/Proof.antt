@@ -69,15 +69,13 @@ same-length-3 : tie.Need-same-length-3
 same-length-3 c = search needs
 
 returns-3 : tie.Need-returns-3
-returns-3 c =
-    rw (c .before .before .before .before .before .enum-told .given .1) (c .before .before .put-word3 .ensures)
+returns-3 c = rw (c .before .before .before .before .before .enum-told .given .1) (c .before .before .put-word3 .ensures)
 
 same-length-4 : tie.Need-same-length-4
 same-length-4 c = search needs
 
 returns-4 : tie.Need-returns-4
-returns-4 c =
-    rw (c .before .before .before .before .before .answer3 .given .1) (c .before .before .put-refused .ensures)
+returns-4 c = rw (c .before .before .before .before .before .answer3 .given .1) (c .before .before .put-refused .ensures)
 
 pub put-answer-spec : {M : Type 1} → statement M
 put-answer-spec =

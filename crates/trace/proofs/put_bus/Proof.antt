@@ -14,8 +14,7 @@ same-length : tie.Need-same-length
 same-length c = search needs
 
 returns : tie.Need-returns
-returns c =
-    rw (c .before .before .before .before .before .if1 .taken) (c .before .before .put-word .ensures)
+returns c = rw (c .before .before .before .before .before .if1 .taken) (c .before .before .put-word .ensures)
 
 slice-aggregate-put-word-2 : tie.Need-slice-aggregate-put-word-2
 slice-aggregate-put-word-2 c = search needs

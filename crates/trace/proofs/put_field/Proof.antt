@@ -8,8 +8,7 @@ use Rattle.trace.proofs.put_field.Statement.{statement}
 use Rattle.trace.proofs.put_field.Tie as tie
 
 slice-write-text : tie.Need-slice-write-text
-slice-write-text c =
-    omega (arith, c .before .pre, field-length (c .before .args .n))
+slice-write-text c = omega (arith, c .before .pre, field-length (c .before .args .n))
 
 add-put-decimal : tie.Need-add-put-decimal
 add-put-decimal c = search needs

@@ -26,12 +26,10 @@ loop-holds c =
     let a = c .before .before .args in (search needs, search needs, put-none (a .text .now) (a .at))
 
 shared-slice-read-put-field : tie.Need-shared-slice-read-put-field Inv-loop μ-loop
-shared-slice-read-put-field c =
-    search needs
+shared-slice-read-put-field c = search needs
 
 cast-put-field : tie.Need-cast-put-field Inv-loop μ-loop
-cast-put-field c =
-    omega (arith, c .shared-slice-known2 .given (c .before .before .before .loop .i))
+cast-put-field c = omega (arith, c .shared-slice-known2 .given (c .before .before .before .loop .i))
 
 put-field-requires : tie.Need-put-field-requires Inv-loop μ-loop
 put-field-requires c κs =
@@ -39,12 +37,10 @@ put-field-requires c κs =
     omega (arith, l .loop .inv .1, l .loop .inv .2 .size, g .pre, field-byte (getD (g .args .values .now) (l .loop .i) 0) (omega (arith, c .shared-slice-known2 .given (l .loop .i))))
 
 add-i : tie.Need-add-i Inv-loop μ-loop
-add-i c =
-    search needs
+add-i c = search needs
 
 loop-less : tie.Need-loop-less Inv-loop μ-loop
-loop-less c =
-    search needs
+loop-less c = search needs
 
 loop-again : tie.Need-loop-again Inv-loop μ-loop
 loop-again c =
@@ -59,8 +55,7 @@ loop-again c =
     )
 
 same-length : tie.Need-same-length Inv-loop μ-loop
-same-length c =
-    c .before .loop .inv .2 .size
+same-length c = c .before .loop .inv .2 .size
 
 returns : tie.Need-returns Inv-loop μ-loop
 returns c =

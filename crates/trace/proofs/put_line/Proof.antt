@@ -39,28 +39,23 @@ put-records-requires c κs = search needs
 
 returns : tie.Need-returns
 unfolding lineText header
-returns c =
-    rw (c .before .before .before .enum-told .given .1) (c .put-word .ensures)
+returns c = rw (c .before .before .before .enum-told .given .1) (c .put-word .ensures)
 
 returns-2 : tie.Need-returns-2
 unfolding lineText
-returns-2 c =
-    rw (c .before .before .before .line .given .1) (c .put-frame .ensures)
+returns-2 c = rw (c .before .before .before .line .given .1) (c .put-frame .ensures)
 
 returns-3 : tie.Need-returns-3
 unfolding lineText
-returns-3 c =
-    rw (c .before .before .before .line2 .given .1) (c .put-refusal .ensures)
+returns-3 c = rw (c .before .before .before .line2 .given .1) (c .put-refusal .ensures)
 
 returns-4 : tie.Need-returns-4
 unfolding lineText
-returns-4 c =
-    rw (c .before .before .before .line3 .given .1) (c .put-stopped .ensures)
+returns-4 c = rw (c .before .before .before .line3 .given .1) (c .put-stopped .ensures)
 
 returns-5 : tie.Need-returns-5
 unfolding lineText
-returns-5 c =
-    rw (c .before .before .before .line4 .given .1) (c .put-records .ensures)
+returns-5 c = rw (c .before .before .before .line4 .given .1) (c .put-records .ensures)
 
 pub put-line-spec : {M : Type 1} → statement M
 put-line-spec =

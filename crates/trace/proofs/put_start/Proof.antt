@@ -6,8 +6,7 @@ use Rattle.trace.proofs.put_start.Statement.{statement}
 use Rattle.trace.proofs.put_start.Tie as tie
 
 put-decimal-requires : tie.Need-put-decimal-requires
-put-decimal-requires c κs =
-    omega (arith, c .before .before .pre, decimal-length (c .before .before .args .ordinal))
+put-decimal-requires c κs = omega (arith, c .before .before .pre, decimal-length (c .before .before .args .ordinal))
 
 put-bus-requires : tie.Need-put-bus-requires
 put-bus-requires c κs =

@@ -9,8 +9,7 @@ use Rattle.trace.proofs.put_stopped.Statement.{statement}
 use Rattle.trace.proofs.put_stopped.Tie as tie
 
 put-decimal-requires : tie.Need-put-decimal-requires
-put-decimal-requires c κs =
-    omega (arith, c .before .pre, decimal-length (c .before .args .ordinal))
+put-decimal-requires c κs = omega (arith, c .before .pre, decimal-length (c .before .args .ordinal))
 
 slice-aggregate-put-word : tie.Need-slice-aggregate-put-word
 slice-aggregate-put-word c = search needs

@@ -6,12 +6,10 @@ use Rattle.trace.proofs.read_record.Statement.{statement}
 use Rattle.trace.proofs.read_record.Tie as tie
 
 returns : tie.Need-returns
-returns c =
-    at-none _ (c .if1 .taken)
+returns c = at-none _ (c .if1 .taken)
 
 returns-2 : tie.Need-returns-2
-returns-2 c =
-    at-one _ (c .before .if1 .left) (c .if2 .taken)
+returns-2 c = at-one _ (c .before .if1 .left) (c .if2 .taken)
 
 shared-slice-read-big-endian : tie.Need-shared-slice-read-big-endian
 shared-slice-read-big-endian c = search needs
@@ -36,8 +34,7 @@ returns-4 c =
     at-cut (t .before .before .before .args .input .now) (e .big-endian .result) (e .big-endian .ensures .0) (t .before .if1 .left) (t .if2 .left) (c .before .if3 .left) (c .if4 .taken)
 
 shared-slice-read-bus : tie.Need-shared-slice-read-bus
-shared-slice-read-bus c =
-    omega (arith, at-least (c .before .before .before .big-endian .result) (c .before .before .if3 .left))
+shared-slice-read-bus c = omega (arith, at-least (c .before .before .before .big-endian .result) (c .before .before .if3 .left))
 
 shared-slice-read-if5 : tie.Need-shared-slice-read-if5
 shared-slice-read-if5 c =

@@ -22,8 +22,7 @@ returns-2 c =
     no-room (g .args .line) (g .args .output .now) (rw (c .before .before .before .before .line-in-range .ensures) at (c .before .before .before .if1 .left)) (p .result) (size-of (p .ensures)) (c .if2 .taken)
 
 array-share-prefix-text : tie.Need-array-share-prefix-text
-array-share-prefix-text c =
-    within (c .before .before .put-line .ensures)
+array-share-prefix-text c = within (c .before .before .put-line .ensures)
 
 slice-aggregate-copy-in : tie.Need-slice-aggregate-copy-in
 slice-aggregate-copy-in c =

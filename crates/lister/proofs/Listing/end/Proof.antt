@@ -11,8 +11,7 @@ put-end-requires : tie.Need-put-end-requires
 put-end-requires c κs = search needs
 
 array-share-prefix-text : tie.Need-array-share-prefix-text
-array-share-prefix-text c =
-    within (c .before .put-end .ensures)
+array-share-prefix-text c = within (c .before .put-end .ensures)
 
 slice-aggregate-copy-in : tie.Need-slice-aggregate-copy-in
 slice-aggregate-copy-in c =
