@@ -33,9 +33,8 @@ pub fn format_of(code: u8) -> Format {
 }
 
 // The five bytes from a place on, as they are; a standard identifier has only three fields.
-pub fn fields(args: &[u8], at: usize, format: Format) -> Fields
-    requires { ⌜ at < 65536 ⌝ }
-{
+pub fn fields(args: &[u8], at: u16, format: Format) -> Fields {
+    let at = at as usize;
     match format {
         Format::Extended => Fields::Extended {
             priority: byte(args, at),
@@ -53,12 +52,10 @@ pub fn fields(args: &[u8], at: usize, format: Format) -> Fields
 }
 
 // A key: bus, format and five fields, from a place on.
-pub fn key(args: &[u8], at: usize) -> Key
-    requires { ⌜ at < 65000 ⌝ }
-{
-    let bus = byte(args, at);
-    let format = format_of(byte(args, at + 1));
-    let fields = fields(args, at + 2, format);
+pub fn key(args: &[u8], at: u8) -> Key {
+    let bus = byte(args, at as usize);
+    let format = format_of(byte(args, at as usize + 1));
+    let fields = fields(args, at as u16 + 2, format);
     Key {
         bus: bus,
         fields: fields,
