@@ -9,6 +9,7 @@ use crate::tally::Tally;
 use std::fs;
 use std::io::{BufReader, Write};
 use std::path::Path;
+use std::process::Command;
 
 /// Runs both programs on that many scripts and compares their responses one by one.
 pub fn compare(calls: &Path, count: u64, seed: u64, keep: Option<&Path>) -> Result<(), String> {
@@ -32,7 +33,7 @@ fn compare_one(calls: &Path, script: &Script, tally: &mut Tally) -> Result<(), S
     let expected = exchange::by_second(&script.requests, &script.tail)?;
     let bytes = whole(script);
     program::run(
-        calls,
+        &mut Command::new(calls),
         |input| input.write_all(&bytes),
         |output| {
             let mut output = BufReader::new(output);

@@ -13,6 +13,7 @@ mod program;
 mod random;
 mod request;
 mod script;
+mod step;
 mod tally;
 mod trace;
 mod traces;
@@ -22,9 +23,10 @@ use std::env;
 use std::io;
 use std::path::Path;
 use std::process::ExitCode;
+use traces::Programs;
 
 const USAGE: &str = "usage:
-  compare traces LISTING COUNT SEED [--keep FILE]
+  compare traces LISTING COUNT SEED [--keep FILE] [--also COMMAND]
   compare pieces CALLS
   compare calls CALLS COUNT SEED [--keep FILE]
   compare make N SEED >TRACE
@@ -43,18 +45,20 @@ fn main() -> ExitCode {
 }
 
 fn run(arguments: &[&str]) -> Result<(), String> {
-    let (arguments, keep) = match *arguments {
-        [ref first @ .., "--keep", file] => (first, Some(Path::new(file))),
-        ref all => (all, None),
-    };
-    match *arguments {
+    let mut arguments = arguments.to_vec();
+    let keep = take_option(&mut arguments, "--keep").map(Path::new);
+    let also = take_option(&mut arguments, "--also");
+    match arguments[..] {
         ["traces", program, count, seed] => {
-            traces::compare(Path::new(program), number(count)?, number(seed)?, keep)
+            let listing = Path::new(program);
+            let programs = Programs { listing, also };
+            traces::compare(&programs, number(count)?, number(seed)?, keep)
         }
-        ["pieces", program] => pieces::compare(Path::new(program)),
-        ["calls", program, count, seed] => {
+        ["calls", program, count, seed] if also.is_none() => {
             calls::compare(Path::new(program), number(count)?, number(seed)?, keep)
         }
+        _ if keep.is_some() || also.is_some() => Err(USAGE.to_string()),
+        ["pieces", program] => pieces::compare(Path::new(program)),
         ["make", records, seed] => {
             let made = make::make(number(records)?, number(seed)?, io::stdout().lock());
             made.map_err(|error| error.to_string())
@@ -67,6 +71,42 @@ fn run(arguments: &[&str]) -> Result<(), String> {
     }
 }
 
+/// Takes an option and its value out of the arguments. One without a value stays there and is found wrong.
+fn take_option<'a>(arguments: &mut Vec<&'a str>, name: &str) -> Option<&'a str> {
+    let place = arguments.iter().position(|&argument| argument == name)?;
+    let value = *arguments.get(place + 1)?;
+    arguments.drain(place..place + 2);
+    Some(value)
+}
+
 fn number(text: &str) -> Result<u64, String> {
     text.parse().map_err(|_| format!("not a number: {text}"))
+}
+
+#[cfg(test)]
+mod tests {
+    use super::*;
+
+    #[test]
+    fn takes_options_in_any_order() {
+        let mut arguments = vec!["traces", "--also", "a b", "x", "--keep", "file"];
+        assert_eq!(take_option(&mut arguments, "--keep"), Some("file"));
+        assert_eq!(take_option(&mut arguments, "--keep"), None);
+        assert_eq!(take_option(&mut arguments, "--also"), Some("a b"));
+        assert_eq!(arguments, ["traces", "x"]);
+    }
+
+    #[test]
+    fn refuses_what_it_does_not_know() {
+        let wrong: [&[&str]; 5] = [
+            &[],
+            &["listing"],
+            &["log", "--also", "x"],
+            &["calls", "x", "1", "1", "--also", "x"],
+            &["traces", "x", "1", "1", "--keep"],
+        ];
+        for arguments in wrong {
+            assert_eq!(run(arguments), Err(USAGE.to_string()));
+        }
+    }
 }

@@ -8,6 +8,7 @@ use crate::request::{self, answer, encode, name, Request};
 use crate::tally::Tally;
 use std::io::{BufReader, Write};
 use std::path::Path;
+use std::process::{ChildStdin, Command};
 
 const SEED: u64 = 43_671;
 
@@ -16,13 +17,13 @@ const SEED: u64 = 43_671;
 pub fn compare(calls: &Path) -> Result<(), String> {
     let mut tally = Tally::requiring(names());
     let mut requests = 0;
-    let feed = |input: &mut std::process::ChildStdin| {
+    let feed = |input: &mut ChildStdin| {
         for (format, size) in batches() {
             input.write_all(&encode(&batch(format, size)))?;
         }
         Ok(())
     };
-    program::run(calls, feed, |output| {
+    program::run(&mut Command::new(calls), feed, |output| {
         let mut output = BufReader::new(output);
         for (format, size) in batches() {
             let batch = batch(format, size);

@@ -1,44 +1,66 @@
 //! Runs a program with its input fed and its output taken at the same time, so that neither waits for the other.
 
-use std::io::{self, ErrorKind, Write};
-use std::path::Path;
-use std::process::{Child, ChildStdin, ChildStdout, Command, Stdio};
+use std::io::{self, ErrorKind, Read, Write};
+use std::process::{Child, ChildStdin, ChildStdout, Command, ExitStatus, Stdio};
+use std::sync::mpsc::{self, Receiver};
 use std::thread;
+use std::time::{Duration, Instant};
+
+/// How long a run may take. A program that hangs must not hold up whoever runs it.
+const LIMIT: Duration = Duration::from_secs(60);
 
 /// Runs the program: one thread feeds it while this one takes its output. A program that ends with
-/// another status than 0 is an error, even if its output was taken as right.
+/// another status than 0, or not at all, is an error, even if its output was taken as right.
 pub fn run<T>(
-    program: &Path,
+    command: &mut Command,
     feed: impl FnOnce(&mut ChildStdin) -> io::Result<()> + Send,
     take: impl FnOnce(&mut ChildStdout) -> Result<T, String>,
 ) -> Result<T, String> {
-    let name = program.display();
-    let mut child = Command::new(program)
+    run_within(LIMIT, command, feed, take)
+}
+
+fn run_within<T>(
+    limit: Duration,
+    command: &mut Command,
+    feed: impl FnOnce(&mut ChildStdin) -> io::Result<()> + Send,
+    take: impl FnOnce(&mut ChildStdout) -> Result<T, String>,
+) -> Result<T, String> {
+    let name = command.get_program().to_string_lossy().into_owned();
+    let mut child = command
         .stdin(Stdio::piped())
         .stdout(Stdio::piped())
         .spawn()
         .map_err(|error| format!("{name} can't be started: {error}"))?;
     let mut input = child.stdin.take().expect("the input is piped");
     let mut output = child.stdout.take().expect("the output is piped");
-    let (fed, taken) = thread::scope(|scope| {
-        let feeder = scope.spawn(move || feed(&mut input));
+    let (stop, stops) = mpsc::channel();
+    let (fed, taken, end) = thread::scope(|scope| {
+        let stop_too = stop.clone();
+        let feeder = scope.spawn(move || {
+            let fed = feed(&mut input).or_else(unless_left);
+            if fed.is_err() {
+                stop_too.send(()).ok();
+            }
+            fed
+        });
+        let watcher = scope.spawn(move || watch(child, &stops, limit));
         let taken = take(&mut output);
         // The rest of the output is not wanted, and a program waiting to write it must not hold us up.
         drop(output);
         if taken.is_err() {
-            end(&mut child);
+            stop.send(()).ok();
         }
-        (feeder.join().expect("the feeder doesn't panic"), taken)
+        drop(stop);
+        let fed = feeder.join().expect("the feeder doesn't panic");
+        (
+            fed,
+            taken,
+            watcher.join().expect("the watcher doesn't panic"),
+        )
     });
-    let status = child.wait().map_err(|error| error.to_string())?;
+    let status = end.map_err(|error| format!("{name}: {error}"))?;
+    fed.map_err(|error| format!("{name}: {error}"))?;
     let taken = taken?;
-    match fed {
-        // A program may stop reading early, at a damaged record.
-        Err(error) if error.kind() != ErrorKind::BrokenPipe => {
-            return Err(format!("{name} can't be fed: {error}"));
-        }
-        _ => {}
-    }
     if status.success() {
         Ok(taken)
     } else {
@@ -46,12 +68,45 @@ pub fn run<T>(
     }
 }
 
-/// Ends a program whose output is already known to be wrong. It may have ended by itself.
-fn end(child: &mut Child) {
-    let _ = child.kill();
+/// A program may stop reading early, at a damaged record.
+fn unless_left(error: io::Error) -> io::Result<()> {
+    match error.kind() {
+        ErrorKind::BrokenPipe => Ok(()),
+        _ => Err(error),
+    }
 }
 
-/// Hands the bytes over in small parts, so that the reader meets short reads.
+/// Waits until the program ends by itself, or ends it: at once when told to stop, because it is already known to
+/// be wrong, and else when its time is over, which is an error.
+fn watch(mut child: Child, stops: &Receiver<()>, limit: Duration) -> io::Result<ExitStatus> {
+    let deadline = Instant::now() + limit;
+    if stops.recv_timeout(limit) == Ok(()) {
+        child.kill()?;
+        return child.wait();
+    }
+    // It was fed and its output taken, or its time is over. A program that closed its output is about to end.
+    while Instant::now() < deadline {
+        if let Some(status) = child.try_wait()? {
+            return Ok(status);
+        }
+        thread::sleep(Duration::from_micros(50));
+    }
+    child.kill()?;
+    child.wait()?;
+    let seconds = limit.as_secs_f32();
+    Err(io::Error::other(format!("not ended after {seconds} s")))
+}
+
+/// All of the output.
+pub fn take_all(output: &mut impl Read) -> Result<Vec<u8>, String> {
+    let mut bytes = Vec::new();
+    match output.read_to_end(&mut bytes) {
+        Ok(_) => Ok(bytes),
+        Err(error) => Err(error.to_string()),
+    }
+}
+
+/// Writes the bytes in small parts. How many of them one read sees depends on when the reader comes.
 pub fn drip(input: &mut impl Write, bytes: &[u8], part: usize) -> io::Result<()> {
     for part in bytes.chunks(part) {
         input.write_all(part)?;
@@ -64,36 +119,64 @@ pub fn drip(input: &mut impl Write, bytes: &[u8], part: usize) -> io::Result<()>
 #[cfg(test)]
 mod tests {
     use super::*;
-    use std::io::Read;
 
-    fn all(output: &mut ChildStdout) -> Result<Vec<u8>, String> {
-        let mut bytes = Vec::new();
-        output
-            .read_to_end(&mut bytes)
-            .map_err(|error| error.to_string())?;
-        Ok(bytes)
+    const SHORT: Duration = Duration::from_millis(200);
+
+    fn cat() -> Command {
+        Command::new("cat")
+    }
+
+    fn shell(script: &str) -> Command {
+        let mut command = Command::new("sh");
+        command.args(["-c", script]);
+        command
     }
 
     #[test]
     fn passes_more_than_a_pipe_holds() {
         let bytes = vec![7; 3_000_000];
-        let copy = run(Path::new("cat"), |input| input.write_all(&bytes), all);
+        let copy = run(&mut cat(), |input| input.write_all(&bytes), take_all);
         assert_eq!(copy, Ok(bytes));
     }
 
     #[test]
     fn passes_single_bytes() {
         let bytes: Vec<u8> = (0..200).collect();
-        let copy = run(Path::new("cat"), |input| drip(input, &bytes, 1), all);
+        let copy = run(&mut cat(), |input| drip(input, &bytes, 1), take_all);
         assert_eq!(copy, Ok(bytes));
     }
 
     #[test]
     fn a_program_may_leave_its_input_but_not_fail() {
         let bytes = vec![7; 3_000_000];
-        let output = run(Path::new("true"), |input| input.write_all(&bytes), all);
+        let mut command = shell("exit 0");
+        let output = run(&mut command, |input| input.write_all(&bytes), take_all);
         assert_eq!(output, Ok(Vec::new()));
-        let output = run(Path::new("false"), |_| Ok(()), all);
+        let output = run(&mut shell("exit 1"), |_| Ok(()), take_all);
         assert!(output.is_err());
+    }
+
+    #[test]
+    fn a_program_that_hangs_is_ended() {
+        let bytes = vec![7; 3_000_000];
+        for script in ["exec sleep 30", "exec sleep 30 >&-"] {
+            let feed = |input: &mut ChildStdin| input.write_all(&bytes);
+            let found = run_within(SHORT, &mut shell(script), feed, take_all);
+            assert_eq!(found, Err("sh: not ended after 0.2 s".to_string()));
+            let found = run_within(SHORT, &mut shell(script), |_| Ok(()), take_all);
+            assert_eq!(found, Err("sh: not ended after 0.2 s".to_string()));
+        }
+    }
+
+    #[test]
+    fn a_program_found_wrong_is_ended_at_once() {
+        let begin = Instant::now();
+        let wrong = |_: &mut ChildStdout| Err::<(), _>("wrong".to_string());
+        let found = run(&mut shell("exec sleep 30"), |_| Ok(()), wrong);
+        assert_eq!(found, Err("wrong".to_string()));
+        let failed = |_: &mut ChildStdin| Err(io::Error::other("no line"));
+        let found = run(&mut shell("exec sleep 30"), failed, take_all);
+        assert_eq!(found, Err("sh: no line".to_string()));
+        assert!(begin.elapsed() < Duration::from_secs(20));
     }
 }

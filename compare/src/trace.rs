@@ -19,6 +19,12 @@ pub const DAMAGES: [&str; 10] = [
     "ends inside the image",
 ];
 
+/// The note of a trace that begins with empty images, so many that their lines are far longer than a read is: a
+/// program meets a full output before it has listed what it read.
+pub const DENSE: &str = "dense trace";
+
+const DENSE_RECORDS: usize = 40_000;
+
 /// A generated trace and what the generator knows of it.
 pub struct Trace {
     pub bytes: Vec<u8>,
@@ -116,17 +122,21 @@ impl Trace {
     /// The trace of that number under the seed.
     pub fn generate(seed: u64, number: u64) -> Trace {
         let mut random = Random::of_item(seed, number);
+        let dense = random.below(400) == 0;
         let profile = Profile::draw(&mut random);
         let keys = different_keys(Format::Extended, profile.streams, &mut random);
         let own = Random::new(random.next());
         let mut traffic = Traffic::new(&keys, profile.sizes, profile.noise, 13, own);
         let mut trace = Trace {
             bytes: Vec::new(),
-            records: profile.records,
+            records: 0,
             damage: None,
             notes: Vec::new(),
             lengths: [0; 14],
         };
+        if dense {
+            trace.push_dense(&mut random);
+        }
         for _ in 0..profile.records {
             trace.push(&traffic.next());
         }
@@ -138,8 +148,26 @@ impl Trace {
         trace
     }
 
+    /// Whether the input ends inside a record.
+    pub fn is_cut(&self) -> bool {
+        self.damage
+            .is_some_and(|damage| damage.starts_with("ends "))
+    }
+
+    fn push_dense(&mut self, random: &mut Random) {
+        for _ in 0..DENSE_RECORDS {
+            self.push(&Arrival {
+                bus: random.below(2) as u8,
+                image: Vec::new(),
+                note: None,
+            });
+        }
+        self.notes.push(DENSE);
+    }
+
     fn push(&mut self, arrival: &Arrival) {
         write_record(&mut self.bytes, arrival.bus, &arrival.image).expect("a Vec takes all");
+        self.records += 1;
         self.notes.extend(arrival.note);
         self.lengths[arrival.image.len()] += 1;
     }
@@ -215,6 +243,23 @@ mod tests {
                 assert_eq!(records(&bytes), (0, true), "{}", DAMAGES[kind]);
             }
         }
+    }
+
+    #[test]
+    fn some_traces_are_dense() {
+        let mut dense = (0..4000)
+            .map(|number| Trace::generate(1, number))
+            .filter(|trace| trace.notes.contains(&DENSE));
+        let trace = dense.next().expect("a dense trace in 4000");
+        assert!(trace.lengths[0] as usize >= DENSE_RECORDS);
+        let head = trace.bytes[..4 * DENSE_RECORDS].chunks(4);
+        let mut seen = [0; 2];
+        for record in head {
+            assert_eq!(record[..3], [0, 2, 1]);
+            seen[usize::from(record[3])] += 1;
+        }
+        assert!(seen[0] > 0 && seen[1] > 0);
+        assert!(dense.count() < 40);
     }
 
     #[test]

@@ -2,25 +2,46 @@
 
 use crate::corrupt::CORRUPTIONS;
 use crate::observe;
-use crate::program::{self, drip};
+use crate::program::{self, drip, take_all};
 use crate::random::Random;
+use crate::step::{self, Steps};
 use crate::tally::Tally;
-use crate::trace::{Trace, DAMAGES};
+use crate::trace::{Trace, DAMAGES, DENSE};
 use crate::traffic::DISTURBANCES;
 use std::fs;
 use std::io::{self, Read, Write};
 use std::path::Path;
+use std::process::Command;
 
 const EMPTY: &str = "input: empty";
-const SMALL_PARTS: &str = "input: handed over in small parts";
+const SMALL_PARTS: &str = "input: written in small parts";
+const LOCK_STEP: &str = "input: in lock step";
+const LOCK_STEP_RECORDS: &str = "input: in lock step, records";
+const LOCK_STEP_CUT: &str = "input: in lock step, records in two parts";
+const LOCK_STEP_OPEN: &str = "input: in lock step, left open after a damaged record";
 
-/// Runs both programs on that many traces and compares what they write.
-pub fn compare(listing: &Path, count: u64, seed: u64, keep: Option<&Path>) -> Result<(), String> {
-    let mut tally = Tally::requiring(names());
+/// One trace in so many is listed by the third program too, which takes long to start.
+const ALSO_EVERY: u64 = 100;
+
+/// The programs that are compared with the second one.
+pub struct Programs<'a> {
+    pub listing: &'a Path,
+    /// A third program, as a command with its arguments.
+    pub also: Option<&'a str>,
+}
+
+/// Runs the programs on that many traces and compares what they write.
+pub fn compare(
+    programs: &Programs,
+    count: u64,
+    seed: u64,
+    keep: Option<&Path>,
+) -> Result<(), String> {
+    let mut tally = Tally::requiring(names(programs));
     let mut records = 0;
     for number in 0..count {
         let trace = Trace::generate(seed, number);
-        compare_one(listing, &trace, &mut tally, seed, number).map_err(|difference| {
+        compare_one(programs, &trace, &mut tally, seed, number).map_err(|difference| {
             let kept = keep.map_or(String::new(), |file| keep_trace(file, &trace.bytes));
             format!("seed {seed}, trace {number}: {difference}{kept}")
         })?;
@@ -33,32 +54,47 @@ pub fn compare(listing: &Path, count: u64, seed: u64, keep: Option<&Path>) -> Re
     Ok(())
 }
 
-fn names() -> Vec<String> {
+fn names(programs: &Programs) -> Vec<String> {
     let mut names = observe::names();
     names.extend(DISTURBANCES.map(|name| format!("made: {name}")));
     names.extend(CORRUPTIONS.map(|name| format!("made: {name}")));
+    names.push(format!("made: {DENSE}"));
     names.extend((0..14).map(|length| format!("made: image of {length} bytes")));
     names.extend(DAMAGES.map(|name| format!("damage: {name}")));
-    names.extend([EMPTY, SMALL_PARTS].map(str::to_string));
+    let inputs = [
+        EMPTY,
+        SMALL_PARTS,
+        LOCK_STEP,
+        LOCK_STEP_RECORDS,
+        LOCK_STEP_CUT,
+        LOCK_STEP_OPEN,
+    ];
+    names.extend(inputs.map(str::to_string));
+    names.extend(programs.also.map(also_row));
     names
 }
 
+fn also_row(also: &str) -> String {
+    format!("listed by {also} too")
+}
+
 fn compare_one(
-    listing: &Path,
+    programs: &Programs,
     trace: &Trace,
     tally: &mut Tally,
     seed: u64,
     number: u64,
 ) -> Result<(), String> {
-    let part = part_size(trace, seed, number);
-    if part.is_some() {
-        tally.count(SMALL_PARTS);
+    let way = Way::draw(trace, &mut Random::of_item(!seed, number));
+    let first = by_program(&mut Command::new(programs.listing), trace, &way)?;
+    let second = by_second(&trace.bytes, &way)?;
+    differ(("program", &first), ("second", &second))?;
+    if let Some(also) = programs.also.filter(|_| number.is_multiple_of(ALSO_EVERY)) {
+        let third = by_program(&mut split(also), trace, &Way::AtOnce)?;
+        differ((also, &third), ("second", &second))?;
+        tally.count(&also_row(also));
     }
-    let first = by_program(listing, &trace.bytes, part)?;
-    let second = by_second(&trace.bytes, part)?;
-    if let Some(difference) = first_difference(&first, &second) {
-        return Err(difference);
-    }
+    count_way(&way, tally);
     let text = String::from_utf8(second).map_err(|_| "the listings are no text")?;
     let records = observe::observe(&text, tally);
     if records != Some(trace.records) {
@@ -70,27 +106,43 @@ fn compare_one(
     Ok(())
 }
 
-/// The size of the parts in which a trace is handed over, if not all at once. Only short ones are, because it
-/// takes time.
-fn part_size(trace: &Trace, seed: u64, number: u64) -> Option<usize> {
-    let mut random = Random::of_item(!seed, number);
-    let small = trace.bytes.len() < 4000 && random.chance(150);
-    small.then(|| random.pick(&[1, 1, 2, 3, 7, 16]))
+/// A command from its words.
+fn split(words: &str) -> Command {
+    let mut words = words.split_whitespace();
+    let mut command = Command::new(words.next().unwrap_or_default());
+    command.args(words);
+    command
 }
 
-fn by_program(listing: &Path, trace: &[u8], part: Option<usize>) -> Result<Vec<u8>, String> {
-    program::run(
-        listing,
-        |input| match part {
-            Some(part) => drip(input, trace, part),
-            None => input.write_all(trace),
-        },
-        |output| {
-            let mut bytes = Vec::new();
-            output.read_to_end(&mut bytes).map_err(|e| e.to_string())?;
-            Ok(bytes)
-        },
-    )
+/// How a trace is handed to a program.
+enum Way<'a> {
+    AtOnce,
+    /// In parts of that size.
+    Parts(usize),
+    LockStep(Steps<'a>),
+}
+
+impl<'a> Way<'a> {
+    /// Only short traces are handed over slowly, because it takes time.
+    fn draw(trace: &'a Trace, random: &mut Random) -> Way<'a> {
+        if trace.bytes.len() >= 4000 {
+            return Way::AtOnce;
+        }
+        match random.below(100) {
+            0..=14 => Way::Parts(random.pick(&[1, 1, 2, 3, 7, 16])),
+            15..=19 => Way::LockStep(Steps::draw(trace, random)),
+            _ => Way::AtOnce,
+        }
+    }
+}
+
+fn by_program(command: &mut Command, trace: &Trace, way: &Way) -> Result<Vec<u8>, String> {
+    let bytes = &trace.bytes;
+    match *way {
+        Way::AtOnce => program::run(command, |input| input.write_all(bytes), take_all),
+        Way::Parts(size) => program::run(command, |input| drip(input, bytes, size), take_all),
+        Way::LockStep(ref steps) => step::run(command, steps),
+    }
 }
 
 /// A reader that never gives more than a small part.
@@ -106,34 +158,48 @@ impl Read for Parts<'_> {
     }
 }
 
-fn by_second(trace: &[u8], part: Option<usize>) -> Result<Vec<u8>, String> {
-    let input = Parts {
-        bytes: trace,
-        part: part.unwrap_or(usize::MAX),
+fn by_second(trace: &[u8], way: &Way) -> Result<Vec<u8>, String> {
+    let part = match *way {
+        Way::Parts(size) => size,
+        _ => usize::MAX,
     };
+    let input = Parts { bytes: trace, part };
     let mut output = Vec::new();
     second::listing(input, &mut output).map_err(|error| format!("second::listing: {error}"))?;
     Ok(output)
 }
 
-/// The first line in which the listings differ, if they do.
-fn first_difference(first: &[u8], second: &[u8]) -> Option<String> {
-    if first == second {
-        return None;
+/// Refuses two listings that differ, each with the name of its program, and shows the first line that does.
+fn differ(first: (&str, &[u8]), second: (&str, &[u8])) -> Result<(), String> {
+    if first.1 == second.1 {
+        return Ok(());
     }
-    let show = |line: Option<&[u8]>| match line {
-        Some(line) => format!("{:?}", String::from_utf8_lossy(line)),
-        None => "nothing".to_string(),
+    let show = |name: &str, line: Option<&[u8]>| match line {
+        Some(line) => format!("  {name}: {:?}", String::from_utf8_lossy(line)),
+        None => format!("  {name}: nothing"),
     };
-    let mut ours = first.split(|&byte| byte == b'\n');
-    let mut theirs = second.split(|&byte| byte == b'\n');
+    let mut ours = first.1.split(|&byte| byte == b'\n');
+    let mut theirs = second.1.split(|&byte| byte == b'\n');
     let mut number = 0;
     loop {
         number += 1;
         let (a, b) = (ours.next(), theirs.next());
         if a != b {
-            let (a, b) = (show(a), show(b));
-            return Some(format!("line {number}\n  program: {a}\n  second:  {b}"));
+            let (a, b) = (show(first.0, a), show(second.0, b));
+            return Err(format!("line {number}\n{a}\n{b}"));
+        }
+    }
+}
+
+fn count_way(way: &Way, tally: &mut Tally) {
+    match way {
+        Way::AtOnce => {}
+        Way::Parts(_) => tally.count(SMALL_PARTS),
+        Way::LockStep(steps) => {
+            tally.count(LOCK_STEP);
+            tally.count_times(LOCK_STEP_RECORDS, steps.records() as u64);
+            tally.count_times(LOCK_STEP_CUT, steps.in_two_parts() as u64);
+            tally.count_times(LOCK_STEP_OPEN, u64::from(steps.stays_open()));
         }
     }
 }
@@ -167,12 +233,18 @@ mod tests {
 
     #[test]
     fn finds_the_first_difference() {
-        assert_eq!(first_difference(b"a\nb\n", b"a\nb\n"), None);
-        let found = first_difference(b"a\nb\n", b"a\nc\n").expect("they differ");
-        assert!(
-            found.starts_with("line 2\n") && found.contains("\"b\"") && found.contains("\"c\"")
-        );
-        let found = first_difference(b"a\n", b"a").expect("they differ");
-        assert!(found.starts_with("line 2\n") && found.contains("nothing"));
+        let compare = |a: &[u8], b: &[u8]| differ(("one", a), ("other", b));
+        assert_eq!(compare(b"a\nb\n", b"a\nb\n"), Ok(()));
+        let found = compare(b"a\nb\n", b"a\nc\n");
+        assert_eq!(found, Err("line 2\n  one: \"b\"\n  other: \"c\"".into()));
+        let found = compare(b"a\n", b"a");
+        assert_eq!(found, Err("line 2\n  one: \"\"\n  other: nothing".into()));
+    }
+
+    #[test]
+    fn splits_a_command_into_words() {
+        let command = split("python3 second/listing.py");
+        assert_eq!(command.get_program(), "python3");
+        assert!(command.get_args().eq(["second/listing.py"]));
     }
 }

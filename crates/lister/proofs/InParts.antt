@@ -7,20 +7,24 @@ use mathlib.Core.List.{List, [], _∷_, _++_, append-assoc, append-nil}
 use native.Mathlib.Omega.{arith}
 use lib.ListN.{length, take, drop, length-append, length-drop}
 use lib.Seq.{drop-append-le}
+use borrow.Author.Tests.{eq-eqb, eqb-true}
 use Rattle.format.specs.declared.Format.the-variants.{Extended}
 use Rattle.format.specs.declared.Refusal.{Refusal}
 use Rattle.format.specs.Claims.{OneNumber}
 use Rattle.format.specs.Refusals.{number}
 use Rattle.format.proofs.Numbers.{one-number}
 use Rattle.frame.specs.Judge.{judge}
+use Rattle.station.specs.Stations.{fullSize}
+use Rattle.station.proofs.Soundness.{met}
 use Rattle.trace.specs.Records.{Found, whole, damaged, cut, none, recordAt}
 use Rattle.trace.specs.Claims.{Sized, Arriving}
 use Rattle.trace.proofs.Arriving.{sized, arriving}
 use Rattle.lister.specs.declared.Why.{Why}
 use Rattle.lister.specs.declared.Why.the-variants as why
 use Rattle.lister.specs.Listing.{newListing, stationOf, heard, lineFor, next, Stand, listedOne, room, Stopped, stopped, listedBy, listed, within, begun, meaning}
-use Rattle.lister.specs.Claims.{everything, program, printed, Part, arrived, listingAt, inParts, InParts, Printed, OneWhy}
+use Rattle.lister.specs.Claims.{soundListing, listingAt, everything, program, printed, Part, arrived, called, inParts, InParts, Printed, OneWhy}
 use Rattle.lister.proofs.Rounds.{enough, unrolled}
+use Rattle.lister.proofs.Soundness.{listed-good, is-listed, rest-is, text-is}
 
 abbrev always : ℕ → Bool
 always n = true
@@ -115,20 +119,39 @@ go-on (suc n) space s more = go (recordAt (s .rest)) refl (λ s′. go-on n spac
     go damaged e ih = refl
     go (whole bus image size) e ih = at-whole (space (length (s .text))) n space s more bus image size e ih
 
+-- a call hands back where it stopped
+called-is : (s : Stand) (part : Part) → soundListing (listingAt s) ≡ true → fullSize (s .store) ≡ true
+    → called s part ≡ behind (s .text) (listed (length (s .rest ++ part .bytes)) (within (part .output)) (begun (listingAt s) (s .store) (s .rest ++ part .bytes)) .stand)
+unfolding called
+called-is s part ok full =
+    let taken = s .rest ++ part .bytes in
+    let q = sym (is-listed (listingAt s) (s .store) taken (part .output) ok full) in
+    let r = rest-is (listingAt s) (s .store) taken (part .output) ok full in
+    let t = text-is (listingAt s) (s .store) taken (part .output) ok full in
+    λ i. record {
+      slots = q i .listing .slots;
+      store = q i .store;
+      count = q i .listing .count;
+      rest = r i;
+      text = s .text ++ t i;
+    }
+
 pub in-parts : InParts
 unfolding InParts inParts
-in-parts s [] = ap (λ (l : List ℕ). everything (record { slots = s .slots; store = s .store; count = s .count; rest = l; text = s .text })) (append-nil (s .rest))
-in-parts s (part ∷ parts) =
+in-parts s [] ok full = ap (λ (l : List ℕ). everything (record { slots = s .slots; store = s .store; count = s .count; rest = l; text = s .text })) (append-nil (s .rest))
+in-parts s (part ∷ parts) ok full =
     let taken = s .rest ++ part .bytes in
     let first = begun (listingAt s) (s .store) taken in
     let r = listed (length taken) (within (part .output)) first .stand in
     let more = arrived parts in
+    let good = listed-good (length taken) (within (part .output)) first (record { slots = ok; store = eqb-true _ _ full }) .0 in
     ap (λ (l : List ℕ). everything (record { slots = s .slots; store = s .store; count = s .count; rest = l; text = s .text })) (sym (append-assoc (s .rest) (part .bytes) more))
     ∙ ap (λ (l : List ℕ). everything (record { slots = s .slots; store = s .store; count = s .count; rest = taken ++ more; text = l })) (sym (append-nil (s .text)))
     ∙ listed-behind (s .text) (length (taken ++ more)) (plus first more)
     ∙ ap (all-behind (s .text)) (go-on (length taken) (within (part .output)) first more)
     ∙ sym (listed-behind (s .text) (length (r .rest ++ more)) (plus r more))
-    ∙ in-parts (behind (s .text) r) parts
+    ∙ in-parts (behind (s .text) r) parts (good .slots) (eq-eqb _ _ (good .store))
+    ∙ ap (λ (x : Stand). everything (inParts x parts)) (sym (called-is s part ok full))
 
 -- ---- when no whole record is left
 
@@ -143,9 +166,9 @@ at-end s h = ap (λ (x : Stopped). x .stand) (unrolled (length (s .rest)) always
 
 pub printed-so : Printed
 unfolding Printed InParts program
-printed-so store parts h =
+printed-so store parts full h =
     let s = inParts (begun newListing store []) parts in
-    ap (λ (x : Stopped). printed (x .stand)) (in-parts (begun newListing store []) parts) ∙ ap printed (at-end s h)
+    ap (λ (x : Stopped). printed (x .stand)) (in-parts (begun newListing store []) parts (met .new Extended) full) ∙ ap printed (at-end s h)
 
 -- ---- the answer
 

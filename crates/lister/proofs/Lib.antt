@@ -2,4 +2,6 @@ mod Hearing
 mod Placing
 mod Rounds
 mod Calling
+mod Soundness
 mod InParts
+mod Examples

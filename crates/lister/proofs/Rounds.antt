@@ -68,11 +68,11 @@ unfolding StaysSound
 opened-sound station bus (refused n) s = s
 opened-sound station bus (value judged) s = stays station s .0 (keyOf bus (judged .frame))
 
-record Keeps (r : After) : Type 0 where
-  slots : sound Extended (r .station .slots) ≡ true
-  store : length (r .store) ≡ 32768
+pub record Keeps (r : After) : Type 0 where
+  pub slots : sound Extended (r .station .slots) ≡ true
+  pub store : length (r .store) ≡ 32768
 
-kept : (slots : List Slot) (store : List ℕ) (bus : ℕ) (image : List ℕ) → sound Extended slots ≡ true → length store ≡ 32768
+pub kept : (slots : List Slot) (store : List ℕ) (bus : ℕ) (image : List ℕ) → sound Extended slots ≡ true → length store ≡ 32768
     → Keeps (heard (stationOf slots) store bus image)
 unfolding heard
 kept slots store bus image s w =

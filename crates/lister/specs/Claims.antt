@@ -1,17 +1,26 @@
--- What is proved of listings, and document 01's listing program as a whole: proofs/InParts.antt has the proofs.
+-- What is proved of listings, and document 01's listing program as a whole: proofs/InParts.antt
+-- and, of the first claim, proofs/Soundness.antt have the proofs.
 use Prim.Native.Nat.{ℕ}
 use mathlib.Core.Path.{_≡_}
 use mathlib.Core.Logic.{_≢_}
 use mathlib.Core.Bool.{Bool, true, false}
 use mathlib.Core.List.{List, [], _∷_, _++_}
-use lib.ListN.{length}
+use lib.ListN.{length, take, drop}
+use Rattle.format.specs.Refusals.{refused}
+use Rattle.station.specs.Stations.{soundStation, fullSize}
 use Rattle.trace.specs.Records.{Found, whole, damaged, cut, none, recordAt}
 use Rattle.trace.specs.Lines.{header}
 use Rattle.lister.specs.declared.Listing.{Listing}
 use Rattle.lister.specs.declared.Why.{Why}
-use Rattle.lister.specs.Listing.{newListing, Stand, Stopped, listed, within, begun, endText, meaning}
+use Rattle.lister.specs.Listing.{newListing, stationOf, Stand, Stopped, listed, begun, Ended, listing, endText, meaning}
 
 -- ---- the program
+
+abbrev pub soundListing : Listing → Bool
+soundListing l = soundStation (stationOf (l .slots))
+
+abbrev pub listingAt : Stand → Listing
+listingAt s = record { slots = s .slots; count = s .count }
 
 -- all records of what is left, whatever room their lines take
 abbrev pub everything : Stand → Stopped
@@ -29,9 +38,19 @@ stopsAt (whole bus image size) = false
 abbrev pub printed : Stand → List ℕ
 printed s = header ++ (s .text ++ endText (stopsAt (recordAt (s .rest))) (s .count))
 
--- the whole output for a whole input
+-- the whole output for a whole input; the store is a full-size one, whose bytes no line shows
 unfoldable pub program : (store taken : List ℕ) → List ℕ
 program store taken = printed (everything (begun newListing store taken) .stand)
+
+-- ---- a listing stays sound
+
+-- with sound slots and a full-size store no call is refused, and what it hands back is sound and full-size again; so is a new listing
+unfoldable pub StaysSound : Type 0
+StaysSound =
+    (soundListing newListing ≡ true)
+    × ((l : Listing) (store taken output : List ℕ) → soundListing l ≡ true → fullSize store ≡ true
+    → let r = listing l store taken output in
+    (soundListing (r .listing) ≡ true) × (fullSize (r .store) ≡ true) × ((n : ℕ) → r .why ≢ refused n))
 
 -- ---- the input arrives in parts
 
@@ -44,29 +63,35 @@ abbrev pub arrived : List Part → List ℕ
 arrived [] = []
 arrived (part ∷ parts) = part .bytes ++ arrived parts
 
-abbrev pub listingAt : Stand → Listing
-listingAt s = record { slots = s .slots; count = s .count }
+-- a call on what was left of the input, with the next part behind it: what it did not use is left, what it wrote is added to the text
+unfoldable pub called : Stand → Part → Stand
+called s part =
+    let taken : List ℕ = s .rest ++ part .bytes in
+    let r : Ended = listing (listingAt s) (s .store) taken (part .output) in
+    record {
+      slots = r .listing .slots;
+      store = r .store;
+      count = r .listing .count;
+      rest = drop (r .used) taken;
+      text = s .text ++ take (r .written) (r .output);
+    }
 
--- the calls one after the other: each gets the listing and the store that the last one left, and what it left of the input with the
--- next part after it; what it writes is added to the text
+-- the calls one after the other: each gets the listing and the store that the last one handed back
 unfoldable pub inParts : Stand → List Part → Stand
 inParts s [] = s
-inParts s (part ∷ parts) =
-    let taken : List ℕ = s .rest ++ part .bytes in
-    let r : Stand = listed (length taken) (within (part .output)) (begun (listingAt s) (s .store) taken) .stand in
-    inParts (record { slots = r .slots; store = r .store; count = r .count; rest = r .rest; text = s .text ++ r .text }) parts
+inParts s (part ∷ parts) = inParts (called s part) parts
 
 -- whatever parts the input arrives in, and whatever outputs are lent: what was written, followed by what is still to be listed of what
 -- is left, is what would have been written had all of it been there at once
 unfoldable pub InParts : Type 0
 InParts =
-    (s : Stand) (parts : List Part)
+    (s : Stand) (parts : List Part) → soundListing (listingAt s) ≡ true → fullSize (s .store) ≡ true
     → everything (record { slots = s .slots; store = s .store; count = s .count; rest = s .rest ++ arrived parts; text = s .text }) ≡ everything (inParts s parts)
 
 -- so when no whole record is left, the program's output is what was written, between the header and the last lines
 unfoldable pub Printed : Type 0
 Printed =
-    (store : List ℕ) (parts : List Part)
+    (store : List ℕ) (parts : List Part) → fullSize store ≡ true
     → let s = inParts (begun newListing store []) parts in
     ((bus : ℕ) (image : List ℕ) (size : ℕ) → recordAt (s .rest) ≢ whole bus image size)
     → program store (arrived parts) ≡ printed s

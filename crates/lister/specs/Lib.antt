@@ -1,3 +1,4 @@
 pub mod Listing
 pub mod Parts
 pub mod Claims
+pub mod Examples

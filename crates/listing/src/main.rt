@@ -4,6 +4,9 @@ use format::Outcome;
 use lister::Listing;
 use lister::Why;
 use trace::Line;
+ghost use mathlib.Core.Path.{_≡_};
+ghost use Prim.Native.Nat.{_≤_};
+ghost use lib.ListN.{length};
 
 // Between two reads: the listing, and how many bytes of the input are held that are no whole record.
 struct Session {
@@ -19,7 +22,9 @@ fn write(answer: Outcome, output: &[u8]) {
     }
 }
 
-fn ended(listing: Listing) -> Session {
+fn ended(listing: Listing) -> Session
+    ensures { λ r. ⌜ r .held ≡ 0 ⌝ }
+{
     Session {
         listing: listing,
         held: 0,
@@ -28,14 +33,19 @@ fn ended(listing: Listing) -> Session {
 }
 
 // The last lines.
-fn end(listing: Listing, stops: bool, output: &mut [u8]) -> Session {
+fn end(listing: Listing, stops: bool, output: &mut [u8]) -> Session
+    ensures { λ r. ⌜ r .held ≡ 0 ⌝ }
+{
     let answer = listing.end(stops, output);
     write(answer, output);
     ended(listing)
 }
 
 // Reads on. Where no more comes, what is held is the beginning of a damaged record, or nothing.
-fn more(listing: Listing, input: &mut [u8], held: usize, output: &mut [u8]) -> Session {
+fn more(listing: Listing, input: &mut [u8], held: usize, output: &mut [u8]) -> Session
+    requires { ⌜ held ≤ length (now input) ⌝ }
+    ensures { λ r. ⌜ r .held ≤ length (now (input .entry)) ⌝ }
+{
     let all = pipes::read_on(input, held);
     if all == held {
         return end(listing, held > 0, output);
@@ -49,12 +59,12 @@ fn more(listing: Listing, input: &mut [u8], held: usize, output: &mut [u8]) -> S
 
 // Lists what is held, writes the lines, and reads on where all whole records are listed. So no line
 // waits for more input.
-fn turn(session: Session, store: &mut [u8], input: &mut [u8], output: &mut [u8]) -> Session {
+fn turn(session: Session, store: &mut [u8], input: &mut [u8], output: &mut [u8]) -> Session
+    requires { ⌜ session .held ≤ length (now input) ⌝ }
+    ensures { λ r. ⌜ r .held ≤ length (now (input .entry)) ⌝ }
+{
     let listing = session.listing;
     let held = session.held;
-    if held > input.len() {
-        return ended(listing);
-    }
     let listed = listing.list(store, &input[0..held], output);
     let listing = listed.listing;
     let why = listed.why;
@@ -71,7 +81,7 @@ fn turn(session: Session, store: &mut [u8], input: &mut [u8], output: &mut [u8])
             going: true,
         },
         Why::Damaged => end(listing, true, output),
-        // The listing is sound, and the store has its size.
+        // Never: the listing stays sound (claim StaysSound of lister), and the store has its size.
         Why::Refused(_) => ended(listing),
     }
 }
@@ -94,7 +104,7 @@ fn list(store: &mut [u8], input: &mut [u8], output: &mut [u8]) {
     }
 }
 
-// What is read at once is written at once: a record of 16 bytes has a line of 40 or so.
+// A record of 16 bytes has a line of 40 or so, so what is read at once is mostly written at once.
 fn main() {
     let mut store = [0u8; 32768];
     let mut input = [0u8; 65536];

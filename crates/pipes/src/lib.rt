@@ -1,14 +1,19 @@
 // What the programs share that work off their input as it arrives: reading on after what is held,
 // moving what is left to the front, and writing what was filled.
+use libc::EPIPE;
 use libc::STDIN_FILENO;
 use libc::STDOUT_FILENO;
 ghost use mathlib.Core.Path.{_≡_};
-ghost use Prim.Native.Nat.{_-_, _≤_};
-ghost use lib.ListN.{length, take, drop};
+ghost use mathlib.Core.Bool.{false};
+ghost use Prim.Native.Nat.{_≤_, _<_};
+ghost use lib.ListN.{length};
+ghost use Rattle.pipes.specs.Holding.{ReadOn, left, moved};
 
 // Reads once, after the first held bytes of the input, and answers how many are held then: no more
 // than before at the input's end. A read that fails counts as the end, and standard error says why.
-pub fn read_on(input: &mut [u8], held: usize) -> usize {
+pub fn read_on(input: &mut [u8], held: usize) -> usize
+    ensures { λ r. ⌜ ReadOn (now (input .entry)) held r (now (input .exit)) ⌝ }
+{
     if held > input.len() {
         return held;
     }
@@ -25,8 +30,8 @@ pub fn read_on(input: &mut [u8], held: usize) -> usize {
 // much it is.
 pub fn keep(input: &mut [u8], at: usize, held: usize) -> usize
     ensures { λ r. ⌜ r ≤ length (now (input .entry)) ⌝ }
-    ensures { λ r. ⌜ (held ≤ length (now (input .entry)) → r ≡ held - at) ⌝ }
-    ensures { λ r. ⌜ take r (now (input .exit)) ≡ take r (drop at (now (input .entry))) ⌝ }
+    ensures { λ r. ⌜ r ≡ left (now (input .entry)) at held ⌝ }
+    ensures { λ _. ⌜ now (input .exit) ≡ moved (now (input .entry)) at held ⌝ }
 {
     if held > input.len() {
         return 0;
@@ -41,10 +46,17 @@ pub fn keep(input: &mut [u8], at: usize, held: usize) -> usize
     to
 }
 
-// Writes the first bytes of the output, and answers whether all of them were.
-pub fn write_out(output: &[u8], filled: usize) -> bool {
+// Writes the first bytes of the output, and answers whether all of them were. Standard error says
+// why a write failed, unless it is that its reader has gone.
+pub fn write_out(output: &[u8], filled: usize) -> bool
+    ensures { λ r. ⌜ (length (now (output .entry)) < filled → r ≡ false) ⌝ }
+{
     if filled > output.len() {
         return false;
     }
-    io::write_all(STDOUT_FILENO, &output[0..filled])
+    let is_written = io::write_all(STDOUT_FILENO, &output[0..filled]);
+    if !is_written & (os::errno() != EPIPE) {
+        os::fail(b"standard output");
+    }
+    is_written
 }

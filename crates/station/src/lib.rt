@@ -70,7 +70,7 @@ pub fn progress_in(occupancy: Occupancy) -> Progress
     }
 }
 
-// A slot that is open with a key, so far.
+// A slot that is open with a key, and how far its stream is.
 pub fn open_slot(key: Key, progress: Progress) -> Slot
     ensures { λ r. ⌜ r ≡ openSlot key progress ⌝ }
 {

@@ -18,7 +18,7 @@ Longest = (line : Line) → lineInRange line ≡ true → length (lineText line)
 unfoldable pub Arriving : Type 0
 Arriving = (input more : List ℕ) → recordAt input ≢ cut → recordAt input ≢ none → recordAt (input ++ more) ≡ recordAt input
 
--- a whole record takes four bytes or more, and no more than there are
+-- a whole record takes four bytes or more, and no more than there are; its bus is 0 or 1
 unfoldable pub Sized : Type 0
 Sized = (input : List ℕ) (bus : ℕ) (image : List ℕ) (size : ℕ) → recordAt input ≡ whole bus image size → (4 ≤ size) × (size ≤ length input) × (bus ≤ 1)
 

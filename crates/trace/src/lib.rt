@@ -20,7 +20,7 @@ ghost use Rattle.trace.specs.Parts.{Put};
 
 // What stands at the head of a trace's bytes.
 pub enum Entry {
-    // A whole record: its bus, and how many bytes it takes. Its image is those from the fourth on.
+    // A whole record: its bus, and how many bytes it takes. Its image is those after the first four.
     Record { bus: u8, size: usize },
     // Damaged by its length, its version or its bus.
     Damaged,

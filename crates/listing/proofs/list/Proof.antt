@@ -1,5 +1,6 @@
--- `listing::list` is safe and ends: the turns run out, and the lengths stay.
+-- `listing::list` is safe and ends: the turns run out, the lengths stay, and what is held is within the input.
 use borrow.Author.Needs.{needs}
+use Prim.Native.Nat.{_≤_}
 use mathlib.Core.Path.{_≡_}
 use lib.ListN.{length}
 use Rattle.listing.proofs.list.Statement.{statement}
@@ -7,7 +8,7 @@ use Rattle.listing.proofs.list.Tie as tie
 
 abbrev Inv-loop : tie.InvT-loop
 Inv-loop store₀ input₀ output₀ session₀ turns₀ store input output session turns =
-    (length store ≡ length store₀) × (length input ≡ length input₀) × (length output ≡ length output₀)
+    (length store ≡ length store₀) × (length input ≡ length input₀) × (length output ≡ length output₀) × (session .held ≤ length input)
 
 abbrev μ-loop : tie.MeasureT-loop
 μ-loop store₀ input₀ output₀ session₀ turns₀ store input output session turns = turns

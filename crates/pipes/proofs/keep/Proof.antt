@@ -1,9 +1,8 @@
--- `pipes::keep` meets its contract: what was moved stands in front, what was not yet is as it was (Moving).
+-- `pipes::keep` meets its contract: what was moved stands in front, the other places are as they were (Moving).
 use Prim.Native.Nat.{_-_}
-use mathlib.Core.Path.{refl}
 use native.Mathlib.Omega.{arith}
 use borrow.Author.Needs.{needs}
-use Rattle.pipes.proofs.Moving.{Moved, none-moved, one-moved}
+use Rattle.pipes.proofs.Moving.{Moved, none-moved, one-moved, all-moved, not-moved}
 use Rattle.pipes.proofs.keep.Statement.{statement}
 use Rattle.pipes.proofs.keep.Tie as tie
 
@@ -14,7 +13,8 @@ abbrev μ-loop : tie.MeasureT-loop
 μ-loop input₀ at held to₀ from₀ input to from = held - from
 
 returns : tie.Need-returns Inv-loop μ-loop
-returns c = (omega arith, (λ h. absurd (omega arith), refl))
+returns c =
+    let a = c .before .args in (omega arith, not-moved (a .input .now) (a .at) (a .held) (c .if1 .taken))
 
 loop-holds : tie.Need-loop-holds Inv-loop μ-loop
 loop-holds c =
@@ -42,8 +42,7 @@ same-length : tie.Need-same-length Inv-loop μ-loop
 same-length c = c .before .loop .inv .size
 
 returns-2 : tie.Need-returns-2 Inv-loop μ-loop
-returns-2 c =
-    let m = c .before .loop .inv in (omega (arith, m .most, c .before .before .if1 .left), (λ h. omega (arith, m .most, m .place, c .loop-test .left), m .front))
+returns-2 c = (omega (arith, c .before .loop .inv .most, c .before .before .if1 .left), all-moved (c .before .loop .inv) (c .before .before .if1 .left) (c .loop-test .left))
 
 pub keep-spec : {M : Type 1} → statement M
 keep-spec =

@@ -1,0 +1,27 @@
+-- Document 01's example of the listing holds of the definitions, by computing.
+use mathlib.Core.Path.{refl}
+use Rattle.format.specs.Tests.{all, allAfter}
+use Rattle.format.specs.Formats.{inRange}
+use Rattle.format.specs.Refusals.{guarded}
+use Rattle.copying.specs.Copy.{written}
+use Rattle.frame.specs.Layout.{flagOf, layout}
+use Rattle.frame.specs.Judge.{pieceRule, checks, judge}
+use Rattle.stream.specs.Step.{appended, followed, stepped, step}
+use Rattle.slot.specs.Slots.{sameFields, sameKey, place}
+use Rattle.slot.specs.Sound.{keyInRange, fits, slotSound, slotsSound, any, keysDiffer, sound}
+use Rattle.station.specs.Stations.{area, withArea}
+use Rattle.station.specs.Receive.{stepAt, deliver, receive}
+use Rattle.station.specs.Open.{opening}
+use Rattle.trace.specs.Records.{recordAt}
+use Rattle.trace.specs.Lines.{digits, decimal, field, fields, header, frameLine, refusedLine, stoppedLine, countLine}
+use Rattle.lister.specs.Listing.{heard, listedOne, listed}
+use Rattle.lister.specs.Claims.{program}
+use Rattle.lister.specs.Examples.{EmptyInput, Example}
+
+pub empty-input : EmptyInput
+unfolding EmptyInput program listed recordAt header countLine field decimal digits
+empty-input = refl
+
+pub example : Example
+unfolding Example program listed listedOne heard recordAt all allAfter inRange guarded written flagOf layout pieceRule checks judge appended followed stepped step sameFields sameKey place keyInRange fits slotSound slotsSound any keysDiffer sound area withArea stepAt deliver receive opening digits decimal field fields header frameLine refusedLine stoppedLine countLine
+example = refl
