@@ -15,10 +15,11 @@ struct Session {
     going: bool,
 }
 
-// Writes a line or lines that stand at the head of the output.
-fn write(answer: Outcome, output: &[u8]) {
-    if let Outcome::Value(n) = answer {
-        pipes::write_out(output, n);
+// Writes a line or lines that stand at the head of the output, and answers whether they were.
+fn write(answer: Outcome, output: &[u8]) -> bool {
+    match answer {
+        Outcome::Value(n) => pipes::write_out(output, n),
+        Outcome::Refused(_) => false,
     }
 }
 
@@ -68,7 +69,7 @@ fn turn(session: Session, store: &mut [u8], input: &mut [u8], output: &mut [u8])
     let listed = listing.list(store, &input[0..held], output);
     let listing = listed.listing;
     let why = listed.why;
-    // Whoever read the listing has gone.
+    // No one is there to read it, or it cannot be written.
     if !pipes::write_out(output, listed.written) {
         return ended(listing);
     }
@@ -90,12 +91,12 @@ fn turn(session: Session, store: &mut [u8], input: &mut [u8], output: &mut [u8])
 // a number that no run uses up.
 fn list(store: &mut [u8], input: &mut [u8], output: &mut [u8]) {
     let answer = trace::write_line(Line::Header, output);
-    write(answer, output);
+    let is_headed = write(answer, output);
     let listing = Listing::new();
     let mut session = Session {
         listing: listing,
         held: 0,
-        going: true,
+        going: is_headed,
     };
     let mut turns = u64::MAX;
     while turns > 0 && session.going {

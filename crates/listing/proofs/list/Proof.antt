@@ -7,11 +7,11 @@ use Rattle.listing.proofs.list.Statement.{statement}
 use Rattle.listing.proofs.list.Tie as tie
 
 abbrev Inv-loop : tie.InvT-loop
-Inv-loop store₀ input₀ output₀ session₀ turns₀ store input output session turns =
+Inv-loop store₀ input₀ output₀ headed session₀ turns₀ store input output session turns =
     (length store ≡ length store₀) × (length input ≡ length input₀) × (length output ≡ length output₀) × (session .held ≤ length input)
 
 abbrev μ-loop : tie.MeasureT-loop
-μ-loop store₀ input₀ output₀ session₀ turns₀ store input output session turns = turns
+μ-loop store₀ input₀ output₀ headed session₀ turns₀ store input output session turns = turns
 
 write-line-requires : tie.Need-write-line-requires Inv-loop μ-loop
 write-line-requires c κs = search needs
