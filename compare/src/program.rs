@@ -26,13 +26,8 @@ fn run_within<T>(
     take: impl FnOnce(&mut ChildStdout) -> Result<T, String>,
 ) -> Result<T, String> {
     let name = command.get_program().to_string_lossy().into_owned();
-    let mut child = command
-        .stdin(Stdio::piped())
-        .stdout(Stdio::piped())
-        .spawn()
-        .map_err(|error| format!("{name} can't be started: {error}"))?;
-    let mut input = child.stdin.take().expect("the input is piped");
-    let mut output = child.stdout.take().expect("the output is piped");
+    let (child, mut input, mut output) =
+        start(command).map_err(|error| format!("{name} can't be started: {error}"))?;
     let (stop, stops) = mpsc::channel();
     let (fed, taken, end) = thread::scope(|scope| {
         let stop_too = stop.clone();
@@ -52,11 +47,8 @@ fn run_within<T>(
         }
         drop(stop);
         let fed = feeder.join().expect("the feeder doesn't panic");
-        (
-            fed,
-            taken,
-            watcher.join().expect("the watcher doesn't panic"),
-        )
+        let end = watcher.join().expect("the watcher doesn't panic");
+        (fed, taken, end)
     });
     let status = end.map_err(|error| format!("{name}: {error}"))?;
     fed.map_err(|error| format!("{name}: {error}"))?;
@@ -66,6 +58,14 @@ fn run_within<T>(
     } else {
         Err(format!("{name} ended with {status}"))
     }
+}
+
+fn start(command: &mut Command) -> io::Result<(Child, ChildStdin, ChildStdout)> {
+    let piped = command.stdin(Stdio::piped()).stdout(Stdio::piped());
+    let mut child = piped.spawn()?;
+    let input = child.stdin.take().expect("the input is piped");
+    let output = child.stdout.take().expect("the output is piped");
+    Ok((child, input, output))
 }
 
 /// A program may stop reading early, at a damaged record.

@@ -140,10 +140,15 @@ impl Lines {
 mod tests {
     use super::*;
 
-    const SHORT: Duration = Duration::from_millis(300);
-
     fn by_shell(script: &str, steps: &Steps) -> Result<Vec<u8>, String> {
-        run_with(SHORT, Command::new("sh").args(["-c", script]), steps)
+        run(Command::new("sh").args(["-c", script]), steps)
+    }
+
+    /// Where something is missing, a test waits for it in vain.
+    fn missing(script: &str, steps: &Steps) -> String {
+        let patience = Duration::from_secs(1);
+        let command = &mut Command::new("sh");
+        run_with(patience, command.args(["-c", script]), steps).expect_err("something is missing")
     }
 
     fn steps(stays_open: bool) -> Steps<'static> {
@@ -163,22 +168,20 @@ mod tests {
 
     #[test]
     fn finds_lines_kept_back() {
-        let found = by_shell("cat", &steps(false));
-        assert_eq!(found, Err("sh: no header".to_string()));
-        let found = by_shell(
-            "echo head; read -r a; echo a; read -r b; read -r c",
-            &steps(false),
-        );
-        assert_eq!(found, Err("sh: no line for record 2".to_string()));
+        assert_eq!(missing("cat", &steps(false)), "sh: no header");
+        let script = "echo head; read -r a; echo a; read -r b; read -r c";
+        let found = missing(script, &steps(false));
+        assert_eq!(found, "sh: no line for record 2");
     }
 
     #[test]
     fn finds_a_program_that_reads_on_after_damage() {
-        let ends = "echo head; while [ \"$a\" != stop ]; do read -r a; echo $a; done";
-        let found = by_shell(ends, &steps(true));
+        let script = "echo head; while [ \"$a\" != stop ]; do read -r a; echo $a; done";
+        let found = by_shell(script, &steps(true));
         assert_eq!(found, Ok(b"head\na\nbb\nc\nstop\n".to_vec()));
-        let found = by_shell("echo head; while read -r a; do echo $a; done", &steps(true));
-        assert_eq!(found, Err("sh: no end after a damaged record".to_string()));
+        let script = "echo head; while read -r a; do echo $a; done";
+        let found = missing(script, &steps(true));
+        assert_eq!(found, "sh: no end after a damaged record");
     }
 
     #[test]

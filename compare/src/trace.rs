@@ -237,10 +237,10 @@ mod tests {
     #[test]
     fn every_kind_of_damage_stops_at_the_first_record() {
         let mut random = Random::new(7);
-        for kind in 0..DAMAGES.len() {
+        for (kind, name) in DAMAGES.iter().enumerate() {
             for _ in 0..100 {
                 let bytes = damaged(kind, &mut random);
-                assert_eq!(records(&bytes), (0, true), "{}", DAMAGES[kind]);
+                assert_eq!(records(&bytes), (0, true), "{name}");
             }
         }
     }

@@ -88,10 +88,10 @@ fn compare_one(
     let way = Way::draw(trace, &mut Random::of_item(!seed, number));
     let first = by_program(&mut Command::new(programs.listing), trace, &way)?;
     let second = by_second(&trace.bytes, &way)?;
-    differ(("program", &first), ("second", &second))?;
+    check_equal(("program", &first), ("second", &second))?;
     if let Some(also) = programs.also.filter(|_| number.is_multiple_of(ALSO_EVERY)) {
         let third = by_program(&mut split(also), trace, &Way::AtOnce)?;
-        differ((also, &third), ("second", &second))?;
+        check_equal((also, &third), ("second", &second))?;
         tally.count(&also_row(also));
     }
     count_way(&way, tally);
@@ -170,7 +170,7 @@ fn by_second(trace: &[u8], way: &Way) -> Result<Vec<u8>, String> {
 }
 
 /// Refuses two listings that differ, each with the name of its program, and shows the first line that does.
-fn differ(first: (&str, &[u8]), second: (&str, &[u8])) -> Result<(), String> {
+fn check_equal(first: (&str, &[u8]), second: (&str, &[u8])) -> Result<(), String> {
     if first.1 == second.1 {
         return Ok(());
     }
@@ -233,7 +233,7 @@ mod tests {
 
     #[test]
     fn finds_the_first_difference() {
-        let compare = |a: &[u8], b: &[u8]| differ(("one", a), ("other", b));
+        let compare = |a: &[u8], b: &[u8]| check_equal(("one", a), ("other", b));
         assert_eq!(compare(b"a\nb\n", b"a\nb\n"), Ok(()));
         let found = compare(b"a\nb\n", b"a\nc\n");
         assert_eq!(found, Err("line 2\n  one: \"b\"\n  other: \"c\"".into()));
