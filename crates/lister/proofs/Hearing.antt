@@ -1,14 +1,13 @@
 -- One record heard: what the code does to the slots is what opening the key, if it is new, and receiving the image do to the station.
 use Prim.Native.Nat.{ℕ, _-_, _≤_, _<_}
 use mathlib.Core.Path.{_≡_, refl, sym, ap, subst, _∙_}
-use mathlib.Core.Bool.{Bool, true, false}
-use mathlib.Core.List.{List, [], _∷_}
+use mathlib.Core.Bool.{true}
+use mathlib.Core.List.{List}
 use native.Mathlib.Omega.{arith}
-use lib.Dec.{leb, ltb, eqb}
+use lib.Dec.{ltb}
 use lib.ListN.{length, set, length-drop}
 use lib.Seq.{getD-set-same, set-getD, set-set}
 use borrow.Author.Tests.{eq-eqb, le-leb, eqb-true, ltb-true}
-use Rattle.format.specs.declared.Format.{Format}
 use Rattle.format.specs.declared.Format.the-variants.{Extended, Standard}
 use Rattle.format.specs.declared.Fields.{Fields}
 use Rattle.format.specs.declared.Fields.the-variants as fields
@@ -34,16 +33,15 @@ use Rattle.slot.specs.declared.Slot.{Slot}
 use Rattle.slot.specs.Slots.{closedSlot, openSlot, slotAt, isClosed, hasKey, place}
 use Rattle.slot.specs.Sound.{sound, sameFormat, keyInRange}
 use Rattle.slot.proofs.Keys.{same-key-refl}
-use Rattle.station.specs.declared.Station.{Station}
 use Rattle.station.specs.declared.Turn.{Turn}
 use Rattle.station.specs.Stations.{soundStation}
 use Rattle.station.specs.Receive.{After, unchanged, keyOf, progressOf, receive, afterTurn}
 use Rattle.station.specs.Open.{Handed, opening}
 use Rattle.station.specs.Parts.{frameOf, Steps}
-use Rattle.station.proofs.Calls.{Good, good, is-found}
+use Rattle.station.proofs.Calls.{good, is-found}
 use Rattle.station.proofs.Soundness.{met}
 use Rattle.station.proofs.Steps.{judged-start}
-use Rattle.station.proofs.Turning.{turnOf, at-none, at-slot}
+use Rattle.station.proofs.Turning.{turnOf, names-first, at-none, at-slot}
 use Rattle.station.proofs.Handing.{open-taken, open-full, open-lowest}
 use Rattle.trace.specs.declared.Line.the-variants as line
 use Rattle.trace.specs.Lines.{listed, lineText, lineInRange}
@@ -111,7 +109,7 @@ module _ (slots : List Slot) (store : List ℕ) (bus : ℕ) (image : List ℕ) (
       -- no slot is left for it
       pub at-full : 16 ≤ place isClosed slots → afterTurn Extended slots (turnOf 0 (slotAt slots 0) Filtered) store ≡ heard (stationOf slots) store bus image
       at-full full =
-          at-none Extended slots store bus image s w b judged e (place (hasKey key) slots) refl far
+          at-none Extended slots store bus image (names-first slots) s w b judged e (place (hasKey key) slots) refl far
           ∙ opened _ (open-full (stationOf slots) key s range far full)
 
       -- it is opened

@@ -22,8 +22,8 @@ use Rattle.station.specs.declared.Station.{Station}
 use Rattle.station.specs.Stations.{area}
 use Rattle.station.specs.Receive.{After, keyOf, progressOf, deliver, judgedAs, receive}
 use Rattle.station.specs.Read.{reading}
-use Rattle.station.specs.Run.{examined, Call, Ran, run, addIfOf, framesOf, answersOf, Alone, oneStream}
-use Rattle.station.specs.Demands.{IsStream, shown, alone, Isolated, SameFrames, Agree, Demand3}
+use Rattle.station.specs.Run.{examined, Call, Ran, runOn, run, addIfOf, framesOf, answersOf, Alone, oneStream}
+use Rattle.station.specs.Demands.{IsStream, shown, alone, Isolated, SameFrames, Agree, Demand3On, Demand3}
 use Rattle.station.proofs.Areas.{ext-areas}
 use Rattle.station.proofs.Steps.{Carrying}
 use Rattle.station.proofs.Calls.{Good, good, Touch, delivered, let-in, frame-carries}
@@ -49,7 +49,7 @@ after-call station store g bus image =
     (through station store g bus (examined (station .format) bus image) (frame-carries (station .format) bus image))
 
 pub ended : (calls : List Call) (station : Station) (store : List ℕ) → Good station store → Ended (station .format) (run station store calls)
-unfolding run
+unfolding runOn
 ended [] station store g = record { well = g; same = refl }
 ended (call ∷ calls) station store g =
     let r = after-call station store g (call .bus) (call .image) in
@@ -71,7 +71,7 @@ closed-call station store g i h e bus (value (value judged)) c =
 
 pub closed-run : (i : ℕ) → i < 16 → (calls : List Call) (station : Station) (store : List ℕ) → Good station store → slotAt (station .slots) i ≡ closedSlot
     → (slotAt (run station store calls .station .slots) i ≡ closedSlot) × (area (run station store calls .store) i ≡ area store i)
-unfolding run
+unfolding runOn
 closed-run i h [] station store g e = (e, refl)
 closed-run i h (call ∷ calls) station store g e =
     let r = after-call station store g (call .bus) (call .image) in
@@ -140,7 +140,7 @@ module _ (format : Format) (i : ℕ) (h : i < 16) (key : Key) (calls : List Call
       at-frame progress (area store i) bus judged r (w .format ∙ e) (w .stays) ih (sameKey key k) refl t
 
 on-its-own : (format : Format) (i : ℕ) (h : i < 16) (key : Key) (calls : List Call) → Later format i h key calls
-unfolding Later Rest Whole run framesOf answersOf oneStream
+unfolding Later Rest Whole runOn framesOf answersOf oneStream
 on-its-own format i h key [] station store progress e g s = record { slot = s; said = refl; bytes = refl }
 on-its-own format i h key (call ∷ calls) station store progress e g s =
     let bus = call .bus in
@@ -159,7 +159,7 @@ module _ (station : Station) (store : List ℕ) (g : Good station store) where
   unfolding alone Later Rest
   ends calls i stream s = on-its-own (station .format) i (s .0) (stream .key) calls station store (stream .progress) refl g (s .1)
 
-  pub isolated : (calls : List Call) → Isolated station store calls
+  pub isolated : (calls : List Call) → Isolated station store calls (run station store calls)
   unfolding shown
   isolated calls =
       record {
@@ -193,7 +193,7 @@ module _ (station : Station) (store : List ℕ) (g : Good station store) where
           a .bytes ∙ ap (λ (y : Alone). y .area) x ∙ sym (b .bytes),
         )
 
-    pub agree : Agree station store calls others
+    pub agree : Agree station calls others (run station store calls) (run station store others)
     unfolding area
     agree =
         let one = ended calls station store g in
@@ -216,6 +216,6 @@ module _ (station : Station) (store : List ℕ) (g : Good station store) where
         }
 
 pub demand3 : Demand3
-unfolding Demand3
+unfolding Demand3On
 demand3 station store s w =
     let g = good station store s w in (isolated station store g, agree station store g)

@@ -4,7 +4,7 @@ pub mod Slots
 pub mod Calls
 pub mod Isolation
 mod Pieces
-mod RoundTrip
+pub mod RoundTrip
 pub mod Soundness
 pub mod Turning
 pub mod Handing

@@ -35,7 +35,7 @@ use Rattle.station.specs.Receive.{keyOf}
 use Rattle.station.specs.Open.{isOpen}
 use Rattle.station.specs.Read.{reading}
 use Rattle.station.specs.Run.{examined, Call, run, addIfOf, framesOf, Alone, oneStream}
-use Rattle.station.specs.Demands.{IsStream, shown, alone, Demand3, fed, woven, answersTo, RoundTrip}
+use Rattle.station.specs.Demands.{IsStream, shown, alone, Demand3On, fed, woven, answersTo, RoundTripOn, RoundTrip}
 use Rattle.station.proofs.Slots.{sound-at}
 use Rattle.station.proofs.Calls.{Good, good, stays-sound}
 use Rattle.station.proofs.Isolation.{demand3, ended}
@@ -125,7 +125,7 @@ in-range station store g i stream s =
     each _ (rw (s .1) at here) .0
 
 pub round-trip : RoundTrip
-unfolding RoundTrip Demand3 Splitting keyInRange shown alone
+unfolding RoundTripOn Demand3On Splitting keyInRange shown alone
 round-trip station store s w i stream h bytes small others none choices =
     let key = stream .key in
     let g = good station store s w in

@@ -7,7 +7,7 @@ use mathlib.Core.List.{List, [], _∷_, _++_}
 use native.Mathlib.Omega.{arith}
 use lib.Dec.{leb, eqb}
 use lib.ListN.{length, set, take, drop, length-drop}
-use lib.Seq.{set-getD, take-all, drop-drop}
+use lib.Seq.{set-getD, set-out, take-all, drop-drop}
 use borrow.Rule.Slice.PartMut.{putMid}
 use borrow.Author.Tests.{eq-eqb, ne-eqb, lt-ltb, le-ltb, lt-leb, le-leb}
 use Rattle.format.specs.declared.Format.{Format}
@@ -62,65 +62,89 @@ pub sought-at : (format : Format) (slots : List Slot) (key : Key) (i : ℕ) → 
 sought-at format slots key i e =
     let p = passed (check State (sound format slots) ∷ []) (place (hasKey key) slots) i e in (p .0 .0, p .1)
 
+-- a turn that leaves every slot as it was: it names none, or what that slot is
+pub record Leaves (slots : List Slot) : Type 0 where
+  pub at : ℕ
+  pub slot : Slot
+  pub kept : set slots at slot ≡ slots
+
+abbrev pub names-none : (slots : List Slot) → length slots ≡ 16 → Leaves slots
+names-none slots sixteen = record { at = 16; slot = slotAt slots 0; kept = set-out slots 16 (slotAt slots 0) (omega (arith, sixteen)) }
+
+abbrev pub names-first : (slots : List Slot) → Leaves slots
+names-first slots = record { at = 0; slot = slotAt slots 0; kept = set-getD slots 0 closedSlot }
+
 module _ (format : Format) (slots : List Slot) (store : List ℕ) (bus : ℕ) (image : List ℕ) where
-  -- no slot changes
-  stays : (answer : Answer) (r : After) → r ≡ unchanged (stationOf format slots) store (meaning answer)
-      → afterTurn format slots (turnOf 0 (slotAt slots 0) answer) store ≡ r
-  stays answer r e = rw (set-getD slots 0 closedSlot) (sym e)
-
-  -- the image is refused
-  pub at-image : (own : Refusal) → refused (number own) ≡ judge format image
-      → afterTurn format slots (turnOf 0 (slotAt slots 0) (Refused (refusedAs format slots (length store) bus own))) store
-      ≡ receive (stationOf format slots) store bus image
-  unfolding refusedAs receive guarded
-  at-image own e = go (sound format slots) (eqb (length store) 32768) (leb bus 1)
-    where
-      go : (s w b : Bool)
-          → afterTurn format slots (turnOf 0 (slotAt slots 0) (Refused (cond s (cond w (cond b own Field) Store) State))) store
-          ≡ judgedAs (stationOf format slots) store bus (cond s (cond w (cond b (value (judge format image)) (refused 9)) (refused 13)) (refused 21))
-      go false w b = stays (Refused State) _ refl
-      go true false b = stays (Refused Store) _ refl
-      go true true false = stays (Refused Field) _ refl
-      go true true true = stays (Refused own) _ (ap (λ (j : Result Judged). judgedAs (stationOf format slots) store bus (value j)) (sym e))
-
-  pub at-state : (key : Key) (name : Refusal) → refused (number name) ≡ sought format slots key
-      → afterTurn format slots (turnOf 0 (slotAt slots 0) (Refused name)) store ≡ receive (stationOf format slots) store bus image
-  unfolding receive
-  at-state key name e =
-      let u = sought-refused format slots key (number name) (sym e) in
-      let why = sym (stop State _ _ (u .0)) ∙ ap refused (sym (u .1)) in
-      stays (Refused name) _ (ap (judgedAs (stationOf format slots) store bus) why)
-
-  pub at-store : sound format slots ≡ true → length store ≢ 32768
-      → afterTurn format slots (turnOf 0 (slotAt slots 0) (Refused Store)) store ≡ receive (stationOf format slots) store bus image
-  unfolding receive guarded
-  at-store s w = stays (Refused Store) _ (rw (s, ne-eqb (length store) 32768 w))
-
-  module _ (s : sound format slots ≡ true) (w : length store ≡ 32768) where
-    pub at-field : 1 < bus → afterTurn format slots (turnOf 0 (slotAt slots 0) (Refused Field)) store ≡ receive (stationOf format slots) store bus image
+  -- the image is a frame
+  module _ (s : sound format slots ≡ true) (w : length store ≡ 32768) (b : bus ≤ 1) (judged : Judged) (e : value judged ≡ judge format image) where
+    as-frame : receive (stationOf format slots) store bus image ≡ deliver (stationOf format slots) store (keyOf bus (judged .frame)) (judged .frame)
     unfolding receive guarded
-    at-field b = stays (Refused Field) _ (rw (s, eq-eqb (length store) 32768 w, lt-leb bus 1 b))
+    as-frame = rw (s, eq-eqb (length store) 32768 w, le-leb bus 1 b, sym e)
 
-    module _ (b : bus ≤ 1) (judged : Judged) (e : value judged ≡ judge format image) where
-      as-frame : receive (stationOf format slots) store bus image ≡ deliver (stationOf format slots) store (keyOf bus (judged .frame)) (judged .frame)
-      unfolding receive guarded
-      as-frame = rw (s, eq-eqb (length store) 32768 w, le-leb bus 1 b, sym e)
+    pub at-slot : (i : ℕ) → place (hasKey (keyOf bus (judged .frame))) slots ≡ i → i < 16
+        → (r : Turn) (last : List ℕ) → Steps format (slotAt slots i) i (keyOf bus (judged .frame)) (judged .frame) store r last
+        → afterTurn format slots r last ≡ receive (stationOf format slots) store bus image
+    unfolding deliver stepAt
+    at-slot i p h r last t =
+        rw (as-frame, p, lt-ltb i 16 h)
+        (λ k. record {
+          answer = t .answer k;
+          station = record { format = format; slots = set slots (t .at k) (t .slot′ k) };
+          store = t .bytes k;
+        })
 
-      module _ (i : ℕ) (p : place (hasKey (keyOf bus (judged .frame))) slots ≡ i) where
-        pub at-none : 16 ≤ i → afterTurn format slots (turnOf 0 (slotAt slots 0) Filtered) store ≡ receive (stationOf format slots) store bus image
-        unfolding deliver
-        at-none h = rw as-frame (stays Filtered _ (rw (p, le-ltb i 16 h)))
+  -- no slot changes
+  module _ (l : Leaves slots) where
+    abbrev pub unmoved : Answer → After
+    unmoved answer = afterTurn format slots (turnOf (l .at) (l .slot) answer) store
 
-        pub at-slot : i < 16 → (r : Turn) (last : List ℕ) → Steps format (slotAt slots i) i (keyOf bus (judged .frame)) (judged .frame) store r last
-            → afterTurn format slots r last ≡ receive (stationOf format slots) store bus image
-        unfolding deliver stepAt
-        at-slot h r last t =
-            rw (as-frame, p, lt-ltb i 16 h)
-            (λ k. record {
-              answer = t .answer k;
-              station = record { format = format; slots = set slots (t .at k) (t .slot′ k) };
-              store = t .bytes k;
-            })
+    stays : (answer : Answer) (r : After) → r ≡ unchanged (stationOf format slots) store (meaning answer) → unmoved answer ≡ r
+    stays answer r e = rw (l .kept) (sym e)
+
+    -- the image is refused
+    pub at-image : (own : Refusal) → refused (number own) ≡ judge format image
+        → unmoved (Refused (refusedAs format slots (length store) bus own)) ≡ receive (stationOf format slots) store bus image
+    unfolding refusedAs receive guarded
+    at-image own e = go (sound format slots) (eqb (length store) 32768) (leb bus 1)
+      where
+        go : (s w b : Bool)
+            → unmoved (Refused (cond s (cond w (cond b own Field) Store) State))
+            ≡ judgedAs (stationOf format slots) store bus (cond s (cond w (cond b (value (judge format image)) (refused 9)) (refused 13)) (refused 21))
+        go false w b = stays (Refused State) _ refl
+        go true false b = stays (Refused Store) _ refl
+        go true true false = stays (Refused Field) _ refl
+        go true true true = stays (Refused own) _ (ap (λ (j : Result Judged). judgedAs (stationOf format slots) store bus (value j)) (sym e))
+
+    pub at-state : (key : Key) (name : Refusal) → refused (number name) ≡ sought format slots key
+        → unmoved (Refused name) ≡ receive (stationOf format slots) store bus image
+    unfolding receive
+    at-state key name e =
+        let u = sought-refused format slots key (number name) (sym e) in
+        let why = sym (stop State _ _ (u .0)) ∙ ap refused (sym (u .1)) in
+        stays (Refused name) _ (ap (judgedAs (stationOf format slots) store bus) why)
+
+    pub at-store : sound format slots ≡ true → length store ≢ 32768
+        → unmoved (Refused Store) ≡ receive (stationOf format slots) store bus image
+    unfolding receive guarded
+    at-store s w = stays (Refused Store) _ (rw (s, ne-eqb (length store) 32768 w))
+
+    pub at-field : sound format slots ≡ true → length store ≡ 32768 → 1 < bus
+        → unmoved (Refused Field) ≡ receive (stationOf format slots) store bus image
+    unfolding receive guarded
+    at-field s w b = stays (Refused Field) _ (rw (s, eq-eqb (length store) 32768 w, lt-leb bus 1 b))
+
+    pub at-none : sound format slots ≡ true → length store ≡ 32768 → bus ≤ 1 → (judged : Judged) → value judged ≡ judge format image
+        → (i : ℕ) → place (hasKey (keyOf bus (judged .frame))) slots ≡ i → 16 ≤ i
+        → unmoved Filtered ≡ receive (stationOf format slots) store bus image
+    unfolding deliver
+    at-none s w b judged e i p h = rw (as-frame s w b judged e) (stays Filtered _ (rw (p, le-ltb i 16 h)))
+
+-- a turn that names no slot
+pub none-named : (format : Format) (slots : List Slot) → length slots ≡ 16 → (r : Turn) (store : List ℕ) → 16 ≤ r .at
+    → record { answer = meaning (r .answer); station = stationOf format slots; store = store } ≡ afterTurn format slots r store
+none-named format slots sixteen r store h =
+    ap (λ (l : List Slot). record { answer = meaning (r .answer); station = stationOf format l; store = store })
+    (sym (set-out slots (r .at) (r .slot) (omega (arith, sixteen))))
 
 -- ---- the stream of slot i steps on its area
 

@@ -28,7 +28,7 @@ use Rattle.station.specs.Stations.{newStation, soundStation, area, fullS
 use Rattle.station.specs.Receive.{receive, progressOf}
 use Rattle.station.specs.Open.{opening, closing}
 use Rattle.station.specs.Read.{reading}
-use Rattle.station.specs.Run.{Call, Ran, run, framesOf, answersOf, Alone, oneStream}
+use Rattle.station.specs.Run.{Call, Ran, Front, runOn, framesOf, answersOf, Alone, oneStream}
 
 -- ---- demand 3: each stream behaves as if it were alone
 
@@ -55,15 +55,14 @@ alone format i stream store calls =
 
 -- whatever the other streams send: each stream is shown as it would be alone, and stays open with its key; closed slots and
 -- their areas stay as they were, and so does the format
-pub record Isolated (station : Station) (store : List ℕ) (calls : List Call) : Type 0 where
+pub record Isolated (station : Station) (store : List ℕ) (calls : List Call) (ran : Ran) : Type 0 where
   pub streams : (i : ℕ) (stream : Stream) → IsStream station i stream
-      → shown (station .format) i (stream .key) calls (run station store calls) ≡ alone (station .format) i stream store calls
+      → shown (station .format) i (stream .key) calls ran ≡ alone (station .format) i stream store calls
   pub slots : (i : ℕ) (stream : Stream) → IsStream station i stream
-      → slotAt (run station store calls .station .slots) i
-      ≡ openSlot (stream .key) (alone (station .format) i stream store calls .progress)
+      → slotAt (ran .station .slots) i ≡ openSlot (stream .key) (alone (station .format) i stream store calls .progress)
   pub closed : (i : ℕ) → IsClosed station i
-      → (slotAt (run station store calls .station .slots) i ≡ closedSlot) × (area (run station store calls .store) i ≡ area store i)
-  pub format : run station store calls .station .format ≡ station .format
+      → (slotAt (ran .station .slots) i ≡ closedSlot) × (area (ran .store) i ≡ area store i)
+  pub format : ran .station .format ≡ station .format
 
 -- two runs give each stream the same frames in the same order
 unfoldable pub SameFrames : Station → List Call → List Call → Type 0
@@ -72,22 +71,25 @@ SameFrames station calls others =
     → framesOf (station .format) (stream .key) calls ≡ framesOf (station .format) (stream .key) others
 
 -- they give the same answers at them, and end with the same slots, packets and store
-pub record Agree (station : Station) (store : List ℕ) (calls others : List Call) : Type 0 where
+pub record Agree (station : Station) (calls others : List Call) (ran other : Ran) : Type 0 where
   pub answers : (i : ℕ) (stream : Stream) → IsStream station i stream
-      → answersOf (station .format) (stream .key) calls (run station store calls .answers)
-      ≡ answersOf (station .format) (stream .key) others (run station store others .answers)
-  pub stations : run station store calls .station ≡ run station store others .station
-  pub packets : (i : ℕ)
-      → reading (run station store calls .station) (run station store calls .store) i
-      ≡ reading (run station store others .station) (run station store others .store) i
-  pub stores : run station store calls .store ≡ run station store others .store
+      → answersOf (station .format) (stream .key) calls (ran .answers)
+      ≡ answersOf (station .format) (stream .key) others (other .answers)
+  pub stations : ran .station ≡ other .station
+  pub packets : (i : ℕ) → reading (ran .station) (ran .store) i ≡ reading (other .station) (other .store) i
+  pub stores : ran .store ≡ other .store
 
--- for every sound station with a full-size store and every list of calls
-unfoldable pub Demand3 : Type 0
-Demand3 =
+-- for every sound station with a full-size store and every list of calls, run on a front
+unfoldable pub Demand3On : Front → Type 0
+Demand3On front =
     (station : Station) (store : List ℕ) → soundStation station ≡ true → fullSize store ≡ true
-    → ((calls : List Call) → Isolated station store calls)
-    × ((calls others : List Call) → SameFrames station calls others → Agree station store calls others)
+    → ((calls : List Call) → Isolated station store calls (runOn front station store calls))
+    × ((calls others : List Call) → SameFrames station calls others
+    → Agree station calls others (runOn front station store calls) (runOn front station store others))
+
+-- "on the first front"
+abbrev pub Demand3 : Type 0
+Demand3 = Demand3On receive
 
 -- ---- demand 2, last sentence: a packet's frames fed in order come out as that packet
 
@@ -113,8 +115,8 @@ answersTo count n broke =
 -- the images of the pieces of a packet of any size within the limit, fed in order to an open stream with their key, with whatever
 -- else is received between them that is no frame of that stream, end in that packet, and reading gives its bytes. The stream
 -- may be idle, as the sentence has it, or not
-unfoldable pub RoundTrip : Type 0
-RoundTrip =
+unfoldable pub RoundTripOn : Front → Type 0
+RoundTripOn front =
     (station : Station) (store : List ℕ) → soundStation station ≡ true → fullSize store ≡ true
     → (i : ℕ) (stream : Stream) → IsStream station i stream
     → (bytes : List ℕ) → length bytes ≤ packetLimit (station .format)
@@ -122,9 +124,12 @@ RoundTrip =
     → (choices : List Bool)
     → let frames = pieces (stream .key .fields) bytes in
     let calls = woven choices (fed (stream .key .bus) frames) others in
-    let ran = run station store calls in
+    let ran = runOn front station store calls in
     (reading (ran .station) (ran .store) i ≡ value bytes)
     × (answersOf (station .format) (stream .key) calls (ran .answers) ≡ answersTo (length frames) (length bytes) (collecting (stream .progress)))
+
+abbrev pub RoundTrip : Type 0
+RoundTrip = RoundTripOn receive
 
 -- ---- soundness is kept, and LONG is extended only
 

@@ -15,7 +15,7 @@ use Rattle.slot.specs.Slots.{sameKey}
 use Rattle.station.specs.declared.Station.{Station}
 use Rattle.station.specs.Receive.{After, keyOf, receive}
 
--- "a run is a list of receiving calls on the first front, each a bus number and an image given beforehand"
+-- "a run is a list of receiving calls [..], each a bus number and an image given beforehand"
 pub record Call : Type 0 where
   pub bus : ℕ
   pub image : List ℕ
@@ -25,13 +25,21 @@ pub record Ran : Type 0 where
   pub station : Station
   pub store : List ℕ
 
--- "each call gets the station that the last handed back and the store as it left it"
-unfoldable pub run : Station → List ℕ → List Call → Ran
-run station store [] = record { answers = []; station = station; store = store }
-run station store (call ∷ calls) =
-    let first : After = receive station store (call .bus) (call .image) in
-    let rest : Ran = run (first .station) (first .store) calls in
+-- a front: what a receiving call on a station and a store gives for a bus and an image
+abbrev pub Front : Type 0
+Front = Station → List ℕ → (bus : ℕ) → List ℕ → After
+
+-- a run on a front: "each call gets the station that the last handed back and the store as it left it"
+unfoldable pub runOn : Front → Station → List ℕ → List Call → Ran
+runOn front station store [] = record { answers = []; station = station; store = store }
+runOn front station store (call ∷ calls) =
+    let first : After = front station store (call .bus) (call .image) in
+    let rest : Ran = runOn front (first .station) (first .store) calls in
     record { answers = first .answer ∷ rest .answers; station = rest .station; store = rest .store }
+
+-- "on the first front"
+abbrev pub run : Station → List ℕ → List Call → Ran
+run station store calls = runOn receive station store calls
 
 -- an image on a bus, with 9 and then 1 to 5 judged
 abbrev pub examined : Format → (bus : ℕ) → List ℕ → Result (Result Judged)

@@ -46,8 +46,8 @@ pub struct Received {
     pub answer: Answer,
 }
 
-// One receiving turn over the bare slots: a slot, what it becomes, and the answer. Where no slot
-// changes, the slot named becomes what it was.
+// One receiving turn over the bare slots: a slot, what it becomes, and the answer. A number over 15
+// names no slot.
 pub struct Turn {
     pub at: usize,
     pub slot: Slot,
@@ -149,19 +149,20 @@ fn step_at(
     }
 }
 
-fn unchanged(first: Slot, answer: Answer) -> Turn
-    ensures { λ r. ⌜ r ≡ record { at = 0; slot = first; answer = answer } ⌝ }
+// No slot changes; some slot has to stand in the turn.
+fn unchanged(slot: Slot, answer: Answer) -> Turn
+    ensures { λ r. ⌜ r ≡ record { at = 16; slot = slot; answer = answer } ⌝ }
 {
     Turn {
-        at: 0,
-        slot: first,
+        at: 16,
+        slot: slot,
         answer: answer,
     }
 }
 
-// Receives an image on a bus, over the bare slots and the lent store: the work of every front.
+// Receives an image on a bus, over the bare slots and the lent store: the work of every front, which
+// has only to store the slot named, if any.
 pub fn take_turn(format: Format, slots: [Slot; 16], store: &mut [u8], bus: u8, image: &[u8]) -> Turn
-    ensures { λ r. ⌜ r .at < 16 ⌝ }
     ensures { λ r. ⌜ afterTurn format slots r (now (store .exit)) ≡ receive (record { format = format; slots = slots }) (now (store .entry)) bus (now (image .entry)) ⌝ }
 {
     let first = slots[0];
@@ -230,7 +231,9 @@ impl Station {
         let t = take_turn(format, slots, store, bus, image);
         let at = t.at;
         let slot = t.slot;
-        self.slots[at] = slot;
+        if at < 16 {
+            self.slots[at] = slot;
+        }
         let answer = t.answer;
         Received {
             station: self,

@@ -1,2 +1,2 @@
 mod Steps
-mod Answers
+pub mod Answers

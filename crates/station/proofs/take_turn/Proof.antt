@@ -4,17 +4,21 @@ use native.Mathlib.Omega.{arith}
 use Rattle.format.specs.Refusals as answers
 use Rattle.frame.specs.declared.Verdict.{Verdict}
 use Rattle.frame.specs.Judge.{meaning}
-use Rattle.station.proofs.Turning.{at-image, at-state, at-store, at-field, at-none, at-slot, Found, found}
+use Rattle.station.proofs.Turning.{at-image, at-state, at-store, at-field, at-none, at-slot, Leaves, names-none, Found, found}
 use borrow.Author.Needs.{needs}
 use Rattle.station.proofs.take_turn.Statement.{statement}
 use Rattle.station.proofs.take_turn.Tie as tie
+
+abbrev none : (c : tie.Start) → Leaves (c .args .t2)
+none c = names-none (c .args .t2) (c .good .1 .0 .1 .0 .1)
 
 -- the image is a frame, and its key has been sought among sound slots
 located : (c : tie.After-known-told4)
     → let g = c .before .before .before .before .before .before .before .before .before .before .before .args in
     Found (g .format) (g .t2) (g .bus) (g .image .now) (c .before .before .before .before .before .head .given .0 .0) (c .before .i .given .0 .0)
 located c =
-    let g = c .before .before .before .before .before .before .before .before .before .before .before .args in
+    let a = c .before .before .before .before .before .before .before .before .before .before .before in
+    let g = a .args in
     found (g .format) (g .t2) (g .bus) (g .image .now) _ _ _ _ (c .before .before .before .before .before .before .before .judge .ensures) (c .before .before .before .before .before .head .given .1)
     (c .before .before .before .seek .ensures) (c .before .i .given .1)
 
@@ -54,10 +58,11 @@ unchanged-requires-3 c κs = search needs
 returns : tie.Need-returns
 returns c =
     let d = c .before .before in
-    let g = d .before .before .before .before .before .before .before .before .before .before .before .args in
+    let a = d .before .before .before .before .before .before .before .before .before .before .before in
+    let g = a .args in
     let l = located d in
     rw (c .unchanged3 .ensures)
-    (omega arith, at-store (g .format) (g .t2) (g .store .now) (g .bus) (g .image .now) (l .ok) (omega arith))
+    (at-store (g .format) (g .t2) (g .store .now) (g .bus) (g .image .now) (none a) (l .ok) (omega arith))
 
 unchanged-requires-4 : tie.Need-unchanged-requires-4
 unchanged-requires-4 c κs = search needs
@@ -65,10 +70,11 @@ unchanged-requires-4 c κs = search needs
 returns-2 : tie.Need-returns-2
 returns-2 c =
     let d = c .before .before .before in
-    let g = d .before .before .before .before .before .before .before .before .before .before .before .args in
+    let a = d .before .before .before .before .before .before .before .before .before .before .before in
+    let g = a .args in
     let l = located d in
     rw (c .unchanged4 .ensures)
-    (omega arith, at-field (g .format) (g .t2) (g .store .now) (g .bus) (g .image .now) (l .ok) (omega arith) (omega arith))
+    (at-field (g .format) (g .t2) (g .store .now) (g .bus) (g .image .now) (none a) (l .ok) (omega arith) (omega arith))
 
 unchanged-requires-5 : tie.Need-unchanged-requires-5
 unchanged-requires-5 c κs = search needs
@@ -76,10 +82,11 @@ unchanged-requires-5 c κs = search needs
 returns-3 : tie.Need-returns-3
 returns-3 c =
     let d = c .before .before .before .before in
-    let g = d .before .before .before .before .before .before .before .before .before .before .before .args in
+    let a = d .before .before .before .before .before .before .before .before .before .before .before in
+    let g = a .args in
     let l = located d in
     rw (c .unchanged5 .ensures)
-    (omega arith, at-none (g .format) (g .t2) (g .store .now) (g .bus) (g .image .now) (l .ok) (omega arith) (omega arith) _ (l .judged) _ (l .placed) (omega arith))
+    (at-none (g .format) (g .t2) (g .store .now) (g .bus) (g .image .now) (none a) (l .ok) (omega arith) (omega arith) _ (l .judged) _ (l .placed) (omega arith))
 
 mul-slot : tie.Need-mul-slot
 mul-slot c = search needs
@@ -93,17 +100,19 @@ step-at-requires c κs =
 
 returns-4 : tie.Need-returns-4
 returns-4 c =
-    let g = c .before .before .before .before .before .before .before .before .before .args in
+    let a = c .before .before .before .before .before .before .before .before .before in
+    let g = a .args in
     let image = g .image .now in
     let e = ap (λ (v : Verdict). meaning v image) (sym (c .before .before .before .own .given .1)) ∙ c .before .before .before .before .before .judge .ensures in
     rw (c .unchanged .ensures, c .before .refused-as .ensures)
-    (omega arith, at-image (g .format) (g .t2) (g .store .now) (g .bus) image _ e)
+    (at-image (g .format) (g .t2) (g .store .now) (g .bus) image (none a) _ e)
 
 returns-5 : tie.Need-returns-5
 returns-5 c =
-    let g = c .before .before .before .before .before .before .before .before .before .before .before .before .args in
+    let a = c .before .before .before .before .before .before .before .before .before .before .before .before in
+    let g = a .args in
     let e = ap answers.meaning (sym (c .before .before .name .given .1)) ∙ c .before .before .before .before .seek .ensures in
-    rw (c .unchanged2 .ensures) (omega arith, at-state (g .format) (g .t2) (g .store .now) (g .bus) (g .image .now) _ (c .before .before .name .given .0 .0) e)
+    rw (c .unchanged2 .ensures) (at-state (g .format) (g .t2) (g .store .now) (g .bus) (g .image .now) (none a) _ (c .before .before .name .given .0 .0) e)
 
 same-length : tie.Need-same-length
 same-length c = search needs
@@ -111,12 +120,10 @@ same-length c = search needs
 returns-6 : tie.Need-returns-6
 returns-6 c =
     let d = c .before .before .before .before .before .before .before .before in
-    let g = d .before .before .before .before .before .before .before .before .before .before .before .args in
+    let a = d .before .before .before .before .before .before .before .before .before .before .before in
+    let g = a .args in
     let l = located d in
-    let t = c .before .before .step-at .ensures in (
-      rw (t .at) (omega arith),
-      at-slot (g .format) (g .t2) (g .store .now) (g .bus) (g .image .now) (l .ok) (omega arith) (omega arith) _ (l .judged) _ (l .placed) (omega arith) _ _ t,
-    )
+    at-slot (g .format) (g .t2) (g .store .now) (g .bus) (g .image .now) (l .ok) (omega arith) (omega arith) _ (l .judged) _ (l .placed) (omega arith) _ _ (c .before .before .step-at .ensures)
 
 pub take-turn-spec : {M : Type 1} → statement M
 take-turn-spec =
