@@ -1,0 +1,3 @@
+mod Row
+mod Refused
+pub mod Fronts

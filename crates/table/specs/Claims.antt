@@ -1,0 +1,96 @@
+-- What is promised of the second front. Each claim is about whatever meets the contract of `table::receive`. Proofs:
+-- proofs/Fronts.antt.
+use Prim.Native.Nat.{ℕ}
+use mathlib.Core.Path.{_≡_}
+use mathlib.Core.Logic.{_≢_, _⊎_}
+use mathlib.Core.Bool.{false}
+use mathlib.Core.List.{List}
+use lib.ListN.{length}
+use Rattle.format.specs.declared.Format.{Format}
+use Rattle.format.specs.declared.Refusal.the-variants.{State}
+use Rattle.format.specs.Refusals.{Result, value, refused, number}
+use Rattle.frame.specs.Judge.{Judged, judge}
+use Rattle.stream.specs.declared.Answer.{Answer}
+use Rattle.stream.specs.Answers.{Reply, meaning}
+use Rattle.slot.specs.declared.Slot.{Slot}
+use Rattle.slot.specs.Slots.{slotAt, hasKey, place}
+use Rattle.slot.specs.Sound.{sound}
+use Rattle.station.specs.declared.Station.{Station}
+use Rattle.station.specs.declared.Received.{Received}
+use Rattle.station.specs.Receive.{keyOf, receive, after}
+use Rattle.station.specs.Run.{Front}
+use Rattle.station.specs.Demands.{Demand3On, RoundTripOn}
+use Rattle.table.specs.Front.{stationOf, afterIn}
+
+-- what a call gives: what its answer says, and the table and the store afterwards
+pub record Given : Type 0 where
+  pub answer : Result Reply
+  pub table : List Slot
+  pub store : List ℕ
+
+-- the contract
+abbrev pub Meets : Format → List Slot → List ℕ → (bus : ℕ) → List ℕ → Given → Type 0
+Meets format table store bus image given =
+    afterIn format (given .answer) (given .table) (given .store) ≡ receive (stationOf format table) store bus image
+
+-- ---- one call
+
+-- "it answers as the first"; the table afterwards is the slots of the station that the first hands back, and the store is the same
+unfoldable pub AsFirst : Type 0
+AsFirst =
+    (station : Station) (store : List ℕ) (bus : ℕ) (image : List ℕ)
+    → (first : Received) (last : List ℕ) → after first last ≡ receive station store bus image
+    → (answer : Answer) (table : List Slot) (other : List ℕ)
+    → Meets (station .format) (station .slots) store bus image (record { answer = meaning answer; table = table; store = other })
+    → (answer ≡ first .answer) × (table ≡ first .station .slots) × (other ≡ last)
+
+-- the record that a call concerns: the one that is open with the key of the frame
+pub record Concerned (format : Format) (table : List Slot) (bus : ℕ) (image : List ℕ) (i : ℕ) : Type 0 where
+  pub judged : Judged
+  pub sound : judge format image ≡ value judged
+  pub here : place (hasKey (keyOf bus (judged .frame))) table ≡ i
+
+-- "updates the one record concerned": every other stays
+unfoldable pub OneRecord : Type 0
+OneRecord =
+    (format : Format) (table : List Slot) (store : List ℕ) (bus : ℕ) (image : List ℕ) (given : Given)
+    → Meets format table store bus image given
+    → (i : ℕ) → (slotAt (given .table) i ≡ slotAt table i) ⊎ Concerned format table bus image i
+
+-- 21, and nothing changes: what a table that is not sound is given, and "a table of any other length"
+abbrev pub Refuses : Format → List Slot → Type 0
+Refuses format table =
+    (store : List ℕ) (bus : ℕ) (image : List ℕ) (given : Given) → Meets format table store bus image given
+    → given ≡ record { answer = refused (number State); table = table; store = store }
+
+unfoldable pub NotSound : Type 0
+NotSound = (format : Format) (table : List Slot) → sound format table ≡ false → Refuses format table
+
+unfoldable pub OtherLength : Type 0
+OtherLength = (format : Format) (table : List Slot) → length table ≢ 16 → Refuses format table
+
+-- ---- runs
+
+-- what calls of the second front give, each for its arguments
+abbrev pub Second : Type 0
+Second = Format → List Slot → List ℕ → (bus : ℕ) → List ℕ → Given
+
+unfoldable pub AlwaysMeets : Second → Type 0
+AlwaysMeets second =
+    (format : Format) (table : List Slot) (store : List ℕ) (bus : ℕ) (image : List ℕ)
+    → Meets format table store bus image (second format table store bus image)
+
+-- a run on it is a run on a front whose station is the format and the table: each call gets the table and the store as the last
+-- left them
+abbrev pub onTable : Second → Front
+onTable second station store bus image =
+    let given = second (station .format) (station .slots) store bus image in
+    afterIn (station .format) (given .answer) (given .table) (given .store)
+
+-- demand 3, and the last sentence of demand 2, hold of runs on it as of runs on the first
+pub record OnTable : Type 0 where
+  pub demand3 : (second : Second) → AlwaysMeets second → Demand3On (onTable second)
+  pub roundTrip : (second : Second) → AlwaysMeets second → RoundTripOn (onTable second)
+  -- and the premise can be met
+  pub second : Second
+  pub meets : AlwaysMeets second
