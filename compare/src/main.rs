@@ -5,6 +5,7 @@ mod calls;
 mod corrupt;
 mod exchange;
 mod frame;
+mod fronts;
 mod log;
 mod make;
 mod observe;
@@ -27,6 +28,7 @@ use traces::Programs;
 
 const USAGE: &str = "usage:
   compare traces LISTING COUNT SEED [--keep FILE] [--also COMMAND]
+  compare fronts FRONTS COUNT SEED [--keep FILE]
   compare pieces CALLS
   compare calls CALLS COUNT SEED [--keep FILE]
   compare make N SEED >TRACE
@@ -53,6 +55,9 @@ fn run(arguments: &[&str]) -> Result<(), String> {
             let listing = Path::new(program);
             let programs = Programs { listing, also };
             traces::compare(&programs, number(count)?, number(seed)?, keep)
+        }
+        ["fronts", program, count, seed] if also.is_none() => {
+            fronts::compare(Path::new(program), number(count)?, number(seed)?, keep)
         }
         ["calls", program, count, seed] if also.is_none() => {
             calls::compare(Path::new(program), number(count)?, number(seed)?, keep)
@@ -98,11 +103,13 @@ mod tests {
 
     #[test]
     fn refuses_what_it_does_not_know() {
-        let wrong: [&[&str]; 5] = [
+        let wrong: [&[&str]; 7] = [
             &[],
             &["listing"],
             &["log", "--also", "x"],
             &["calls", "x", "1", "1", "--also", "x"],
+            &["fronts", "x", "1", "1", "--also", "x"],
+            &["fronts", "x", "1"],
             &["traces", "x", "1", "1", "--keep"],
         ];
         for arguments in wrong {

@@ -2,7 +2,8 @@
 
 use crate::tally::Tally;
 
-const ANSWERS: [&str; 13] = [
+/// What a record can be answered, packets of all lengths together.
+pub const ANSWERS: [&str; 13] = [
     "packet",
     "packet broke",
     "kept",
