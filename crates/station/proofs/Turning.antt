@@ -33,16 +33,13 @@ use Rattle.slot.specs.declared.Key.{Key}
 use Rattle.slot.specs.declared.Slot.{Slot}
 use Rattle.slot.specs.Slots.{closedSlot, openSlot, slotAt, hasKey, place}
 use Rattle.slot.specs.Sound.{sound, sought}
-use Rattle.station.specs.declared.Station.{Station}
+use Rattle.slot.proofs.Places.{place-within}
 use Rattle.station.specs.declared.Turn.{Turn}
-use Rattle.station.specs.Stations.{area, withArea}
-use Rattle.station.specs.Receive.{After, unchanged, keyOf, progressOf, stepAt, deliver, judgedAs, receive, afterTurn}
+use Rattle.station.specs.Stations.{stationOf, area, withArea}
+use Rattle.station.specs.Receive.{After, unchanged, keyOf, progressOf, stepAt, deliver, judgedAs, receive, concernedBy, concerned, afterTurn}
 use Rattle.station.specs.Parts.{refusedAs, frameOf, Steps}
 use Rattle.station.proofs.Areas.{area-length}
 use Rattle.station.proofs.Steps.{judged-start}
-
-abbrev pub stationOf : Format → List Slot → Station
-stationOf format slots = record { format = format; slots = slots }
 
 abbrev pub turnOf : ℕ → Slot → Answer → Turn
 turnOf at slot answer = record { at = at; slot = slot; answer = answer }
@@ -89,9 +86,43 @@ module _ (format : Format) (slots : List Slot) (store : List ℕ) (bus : ℕ) (i
         rw (as-frame, p, lt-ltb i 16 h)
         (λ k. record {
           answer = t .answer k;
-          station = record { format = format; slots = set slots (t .at k) (t .slot′ k) };
+          station = stationOf format (set slots (t .at k) (t .slot′ k));
           store = t .bytes k;
         })
+
+    pub on-frame : place (hasKey (keyOf bus (judged .frame))) slots ≡ concerned (stationOf format slots) store bus image
+    unfolding concerned guarded
+    on-frame = rw (s, eq-eqb (length store) 32768 w, le-leb bus 1 b, sym e) refl
+
+  -- no slot is concerned
+  pub on-image : (own : Refusal) → refused (number own) ≡ judge format image → 16 ≡ concerned (stationOf format slots) store bus image
+  unfolding concerned guarded
+  on-image own e = go (sound format slots) (eqb (length store) 32768) (leb bus 1)
+    where
+      go : (s w b : Bool) → 16 ≡ concernedBy slots bus (cond s (cond w (cond b (value (judge format image)) (refused 9)) (refused 13)) (refused 21))
+      go false w b = refl
+      go true false b = refl
+      go true true false = refl
+      go true true true = ap (λ (j : Result Judged). concernedBy slots bus (value j)) e
+
+  pub on-state : (key : Key) (name : Refusal) → refused (number name) ≡ sought format slots key → 16 ≡ concerned (stationOf format slots) store bus image
+  unfolding concerned guarded
+  on-state key name e = rw (sought-refused format slots key (number name) (sym e) .0) refl
+
+  pub on-store : sound format slots ≡ true → length store ≢ 32768 → 16 ≡ concerned (stationOf format slots) store bus image
+  unfolding concerned guarded
+  on-store s w = rw (s, ne-eqb (length store) 32768 w) refl
+
+  pub on-field : sound format slots ≡ true → length store ≡ 32768 → 1 < bus → 16 ≡ concerned (stationOf format slots) store bus image
+  unfolding concerned guarded
+  on-field s w b = rw (s, eq-eqb (length store) 32768 w, lt-leb bus 1 b) refl
+
+  pub on-none : length slots ≡ 16 → sound format slots ≡ true → length store ≡ 32768 → bus ≤ 1 → (judged : Judged) → value judged ≡ judge format image
+      → (i : ℕ) → place (hasKey (keyOf bus (judged .frame))) slots ≡ i → 16 ≤ i → 16 ≡ concerned (stationOf format slots) store bus image
+  on-none n s w b judged e i p h =
+      let most = place-within (hasKey (keyOf bus (judged .frame))) slots in
+      let all : 16 ≡ place (hasKey (keyOf bus (judged .frame))) slots = omega (arith, most, n, p, h) in
+      all ∙ on-frame s w b judged e
 
   -- no slot changes
   module _ (l : Leaves slots) where

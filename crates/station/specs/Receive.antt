@@ -22,7 +22,7 @@ use Rattle.slot.specs.Slots.{openSlot, slotAt, hasKey, place}
 use Rattle.station.specs.declared.Station.{Station}
 use Rattle.station.specs.declared.Received.{Received}
 use Rattle.station.specs.declared.Turn.{Turn}
-use Rattle.station.specs.Stations.{soundStation, withSlots, area, withArea, fullSize}
+use Rattle.station.specs.Stations.{stationOf, soundStation, withSlots, area, withArea, fullSize}
 
 -- the answer, the station handed back, the store's bytes
 pub record After : Type 0 where
@@ -67,22 +67,34 @@ judgedAs station store bus (value (refused n)) = unchanged station store (refuse
 judgedAs station store bus (value (value judged)) = deliver station store (keyOf bus (judged .frame)) (judged .frame)
 
 -- STATE: station handed in not sound. STORE: store not 32,768 bytes. FIELD: a bus handed in is out of range. Then the image is judged
+abbrev pub letIn : Station → List ℕ → (bus : ℕ) → List ℕ → Result (Result Judged)
+letIn station store bus image =
+    guarded (check State (soundStation station) ∷ check Store (fullSize store) ∷ check Field (leb bus 1) ∷ [])
+    (judge (station .format) image)
+
 unfoldable pub receive : Station → List ℕ → (bus : ℕ) → List ℕ → After
-receive station store bus image =
-    judgedAs station store bus
-    (guarded (check State (soundStation station) ∷ check Store (fullSize store) ∷ check Field (leb bus 1) ∷ [])
-    (judge (station .format) image))
+receive station store bus image = judgedAs station store bus (letIn station store bus image)
+
+-- the slot that a call concerns: the one that is open with the frame's key; 16, which is none, where there is no such slot or no
+-- frame
+abbrev pub concernedBy : List Slot → (bus : ℕ) → Result (Result Judged) → ℕ
+concernedBy slots bus (refused n) = 16
+concernedBy slots bus (value (refused n)) = 16
+concernedBy slots bus (value (value judged)) = place (hasKey (keyOf bus (judged .frame))) slots
+
+unfoldable pub concerned : Station → List ℕ → (bus : ℕ) → List ℕ → ℕ
+concerned station store bus image = concernedBy (station .slots) bus (letIn station store bus image)
 
 -- what the code hands back, and the store afterwards, say
 abbrev pub after : Received → List ℕ → After
 after r store = record { answer = meaning (r .answer); station = r .station; store = store }
 
--- the same for the work over the bare slots, which names one slot, what it becomes, and the answer; where no slot changes, the one
--- named becomes what it was
+-- the same for the work over the bare slots, which names a slot, what it becomes, and the answer. There is no slot 16: where that is
+-- named, `set` leaves the slots as they are
 abbrev pub afterTurn : Format → List Slot → Turn → List ℕ → After
 afterTurn format slots r store =
     record {
       answer = meaning (r .answer);
-      station = record { format = format; slots = set slots (r .at) (r .slot) };
+      station = stationOf format (set slots (r .at) (r .slot));
       store = store;
     }

@@ -11,6 +11,9 @@ use Rattle.slot.specs.Slots.{closedSlot}
 use Rattle.slot.specs.Sound.{sound}
 use Rattle.station.specs.declared.Station.{Station}
 
+abbrev pub stationOf : Format → List Slot → Station
+stationOf format slots = record { format = format; slots = slots }
+
 abbrev pub newStation : Format → Station
 newStation format = record { format = format; slots = replicate 16 closedSlot }
 

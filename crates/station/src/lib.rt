@@ -22,8 +22,8 @@ ghost use Prim.Native.Nat.{_-_, _≤_, _<_};
 ghost use lib.ListN.{length};
 ghost use Rattle.format.specs.Refusals.{meaning};
 ghost use Rattle.slot.specs.Slots.{closedSlot, openSlot};
-ghost use Rattle.station.specs.Stations.{newStation};
-ghost use Rattle.station.specs.Receive.{keyOf, progressIn, receive, after, afterTurn};
+ghost use Rattle.station.specs.Stations.{stationOf, newStation};
+ghost use Rattle.station.specs.Receive.{keyOf, progressIn, receive, concerned, after, afterTurn};
 ghost use Rattle.station.specs.Open as handing;
 ghost use Rattle.station.specs.Read.{reading, lengthOf, partOf, placeOf};
 ghost use Rattle.station.specs.Parts.{refusedAs, frameOf, Steps};
@@ -46,8 +46,7 @@ pub struct Received {
     pub answer: Answer,
 }
 
-// One receiving turn over the bare slots: a slot, what it becomes, and the answer. A number over 15
-// names no slot.
+// One receiving turn over the bare slots: the slot concerned, what it becomes, and the answer.
 pub struct Turn {
     pub at: usize,
     pub slot: Slot,
@@ -161,9 +160,9 @@ fn unchanged(slot: Slot, answer: Answer) -> Turn
 }
 
 // Receives an image on a bus, over the bare slots and the lent store: the work of every front, which
-// has only to store the slot named, if any.
+// has only to store the slot named, if it is one. 16 names none.
 pub fn take_turn(format: Format, slots: [Slot; 16], store: &mut [u8], bus: u8, image: &[u8]) -> Turn
-    ensures { λ r. ⌜ afterTurn format slots r (now (store .exit)) ≡ receive (record { format = format; slots = slots }) (now (store .entry)) bus (now (image .entry)) ⌝ }
+    ensures { λ r. ⌜ (r .at ≡ concerned (stationOf format slots) (now (store .entry)) bus (now (image .entry))) × (afterTurn format slots r (now (store .exit)) ≡ receive (stationOf format slots) (now (store .entry)) bus (now (image .entry))) ⌝ }
 {
     let first = slots[0];
     match judge(format, image) {

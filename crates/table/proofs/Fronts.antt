@@ -1,32 +1,30 @@
--- The two fronts meet one definition, so that whatever holds of calls and runs on the first holds on the second: no induction over
--- calls is needed.
+-- The two fronts meet one definition, so that whatever holds of calls and runs on the first holds on the second (`on-table`): it is carried
+-- over, with no induction over calls.
 use Prim.Native.Nat.{ℕ}
 use mathlib.Core.Path.{_≡_, refl, sym, ap, _∙_, subst}
-use mathlib.Core.Logic.{_⊎_, inl, inr}
+use mathlib.Core.Logic.{_≢_}
 use mathlib.Core.Bool.{Bool, true, false, cond}
 use mathlib.Core.List.{List, [], _∷_}
-use lib.Dec.{ltb, leb, eqb}
-use lib.ListN.{length, set}
+use lib.Dec.{ltb}
 use lib.Seq.{getD-set-other}
-use borrow.Author.Tests.{eqb-true, eqb-false}
 use Rattle.format.specs.declared.Format.{Format}
-use Rattle.format.specs.declared.Refusal.the-variants.{Field, State, Store}
-use Rattle.format.specs.Refusals.{Result, value, refused, number, check, guarded}
-use Rattle.frame.specs.Judge.{Frame, Judged, judge}
+use Rattle.format.specs.declared.Refusal.the-variants.{State}
+use Rattle.format.specs.Refusals.{Result, value, refused, number}
+use Rattle.frame.specs.Judge.{Frame, Judged}
 use Rattle.stream.specs.Answers.{filtered}
 use Rattle.stream.specs.Claims.{OneAnswer}
 use Rattle.stream.proofs.Answers.{one-answer}
 use Rattle.slot.specs.declared.Key.{Key}
 use Rattle.slot.specs.declared.Slot.{Slot}
 use Rattle.slot.specs.Slots.{closedSlot, slotAt, hasKey, place}
-use Rattle.slot.specs.Sound.{sound}
-use Rattle.station.specs.Stations.{fullSize}
-use Rattle.station.specs.Receive.{After, unchanged, keyOf, judgedAs, deliver, stepAt, receive}
+use Rattle.station.specs.Stations.{stationOf}
+use Rattle.station.specs.Receive.{After, unchanged, keyOf, judgedAs, letIn, deliver, stepAt, receive, concernedBy, concerned}
+use Rattle.station.specs.Run.{Ran, runOn, run}
 use Rattle.station.specs.Demands.{Demand3On, RoundTripOn}
 use Rattle.station.proofs.Isolation.{demand3}
 use Rattle.station.proofs.RoundTrip.{round-trip}
-use Rattle.table.specs.Front.{stationOf, afterIn}
-use Rattle.table.specs.Claims.{Given, AsFirst, Concerned, OneRecord, NotSound, OtherLength, Second, AlwaysMeets, onTable, OnTable}
+use Rattle.table.specs.Front.{afterIn}
+use Rattle.table.specs.Claims.{Given, AsFirst, OneGiven, OneRecord, NotSound, OtherLength, Second, AlwaysMeets, onTable, OnTable, Chained, ended, AsRun}
 use Rattle.table.proofs.Refused.{unsound-length, unsound-refused}
 
 pub as-first : AsFirst
@@ -53,44 +51,32 @@ unfolding OtherLength NotSound
 other-length format table h store bus image given m =
     not-sound format table (unsound-length format table h) store bus image given m
 
+pub one-given : OneGiven
+unfolding OneGiven
+one-given format table store bus image given other m n = read-off format given _ (m ∙ sym n)
+
 -- ---- the one record
 
-module _ (format : Format) (table : List Slot) (store : List ℕ) (bus : ℕ) (image : List ℕ) (i : ℕ) where
-  Changes : After → Type 0
-  Changes r = (slotAt (r .station .slots) i ≡ slotAt table i) ⊎ Concerned format table bus image i
+module _ (format : Format) (table : List Slot) (store : List ℕ) (bus : ℕ) (i : ℕ) where
+  stays-in : (b : Bool) (key : Key) (frame : Frame) → i ≢ place (hasKey key) table
+      → slotAt (cond b (stepAt (stationOf format table) store (place (hasKey key) table) key frame) (unchanged (stationOf format table) store (value filtered)) .station .slots) i
+      ≡ slotAt table i
+  unfolding stepAt
+  stays-in true key frame h = getD-set-other table (place (hasKey key) table) i _ closedSlot h
+  stays-in false key frame h = refl
 
-  module _ (judged : Judged) (e : judge format image ≡ value judged) where
-    at : ℕ
-    at = place (hasKey (keyOf bus (judged .frame))) table
-
-    stepped : (b : Bool) → eqb at i ≡ b → (slot : Slot) → (slotAt (set table at slot) i ≡ slotAt table i) ⊎ Concerned format table bus image i
-    unfolding at
-    stepped true h slot = inr (record { judged = judged; sound = e; here = eqb-true at i h })
-    stepped false h slot = inl (getD-set-other table at i slot closedSlot (λ q. eqb-false at i h (sym q)))
-
-    delivered : (b : Bool) → Changes (cond b (stepAt (stationOf format table) store at (keyOf bus (judged .frame)) (judged .frame)) (unchanged (stationOf format table) store (value filtered)))
-    unfolding Changes stepAt
-    delivered true = stepped (eqb at i) refl _
-    delivered false = inl refl
-
-  let-in : (s w b : Bool) (j : Result Judged) → judge format image ≡ j
-      → Changes (judgedAs (stationOf format table) store bus (cond s (cond w (cond b (value j) (refused 9)) (refused 13)) (refused 21)))
-  unfolding Changes deliver at
-  let-in false w b j e = inl refl
-  let-in true false b j e = inl refl
-  let-in true true false j e = inl refl
-  let-in true true true (refused n) e = inl refl
-  let-in true true true (value judged) e = delivered judged e (ltb (place (hasKey (keyOf bus (judged .frame))) table) 16)
-
-  changes : Changes (receive (stationOf format table) store bus image)
-  unfolding receive guarded
-  changes = let-in (sound format table) (eqb (length store) 32768) (leb bus 1) (judge format image) refl
+  stays : (j : Result (Result Judged)) → i ≢ concernedBy table bus j → slotAt (judgedAs (stationOf format table) store bus j .station .slots) i ≡ slotAt table i
+  unfolding deliver
+  stays (refused n) h = refl
+  stays (value (refused n)) h = refl
+  stays (value (value judged)) h =
+      stays-in (ltb (place (hasKey (keyOf bus (judged .frame))) table) 16) (keyOf bus (judged .frame)) (judged .frame) h
 
 pub one-record : OneRecord
-unfolding OneRecord Changes
-one-record format table store bus image given m i =
-    subst (λ (l : List Slot). (slotAt l i ≡ slotAt table i) ⊎ Concerned format table bus image i) (ap (λ (r : After). r .station .slots) (sym m))
-    (changes format table store bus image i)
+unfolding OneRecord receive concerned
+one-record format table store bus image given m i h =
+    subst (λ (l : List Slot). slotAt l i ≡ slotAt table i) (ap (λ (r : After). r .station .slots) (sym m))
+    (stays format table store bus i (letIn (stationOf format table) store bus image) h)
 
 -- ---- runs: a second front that meets its contract is the first
 
@@ -112,10 +98,9 @@ module _ (format : Format) (table : List Slot) (store : List ℕ) (bus : ℕ) wh
   kept (value (refused n)) = refl
   kept (value (value judged)) = kept-in (ltb (place (hasKey (keyOf bus (judged .frame))) table) 16) (keyOf bus (judged .frame)) (judged .frame)
 
-  pub same-format : (image : List ℕ) → receive (stationOf format table) store bus image .station .format ≡ format
+  same-format : (image : List ℕ) → receive (stationOf format table) store bus image .station .format ≡ format
   unfolding receive
-  same-format image =
-      kept (guarded (check State (sound format table) ∷ check Store (fullSize store) ∷ check Field (leb bus 1) ∷ []) (judge format image))
+  same-format image = kept (letIn (stationOf format table) store bus image)
 
 -- what the first front gives, with its slots as the table
 as-given : Second
@@ -136,3 +121,15 @@ on-table =
       second = as-given;
       meets = as-given-meets;
     }
+
+-- seen from the code: the one induction, over the calls, by which a chain is a run
+pub as-run : AsRun
+unfolding AsRun Chained ended runOn
+as-run format [] table store [] c = refl
+as-run format [] table store (given ∷ givens) c = absurd c
+as-run format (call ∷ calls) table store [] c = absurd c
+as-run format (call ∷ calls) table store (given ∷ givens) c =
+    let rest = as-run format calls (given .table) (given .store) givens (c .1) in
+    let on : Ran → After → Ran = λ ran first. record { answers = first .answer ∷ ran .answers; station = ran .station; store = ran .store } in
+    ap (λ (ran : Ran). on ran (afterIn format (given .answer) (given .table) (given .store))) rest
+    ∙ ap (λ (first : After). on (run (first .station) (first .store) calls) first) (c .0)

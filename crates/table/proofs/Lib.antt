@@ -1,3 +1,3 @@
-mod Row
+pub mod Row
 mod Refused
 pub mod Fronts

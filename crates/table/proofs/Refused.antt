@@ -12,8 +12,9 @@ use Rattle.format.specs.Refusals.{refused, number, guarded}
 use Rattle.format.specs.Tests.{all}
 use Rattle.slot.specs.declared.Slot.{Slot}
 use Rattle.slot.specs.Sound.{sound}
+use Rattle.station.specs.Stations.{stationOf}
 use Rattle.station.specs.Receive.{receive}
-use Rattle.table.specs.Front.{stationOf, afterIn}
+use Rattle.table.specs.Front.{afterIn}
 
 pub unsound-length : (format : Format) (table : List Slot) → length table ≢ 16 → sound format table ≡ false
 unfolding sound all

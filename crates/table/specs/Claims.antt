@@ -1,26 +1,26 @@
--- What is promised of the second front. Each claim is about whatever meets the contract of `table::receive`. Proofs:
--- proofs/Fronts.antt.
+-- What is promised of the second front. Each claim is about whatever meets the contract of `table::receive`. `AsFirst`, `OneGiven`,
+-- `OneRecord`, `NotSound` and `OtherLength` are of one call, `OnTable` and `AsRun` of runs. Proofs: proofs/Fronts.antt.
 use Prim.Native.Nat.{ℕ}
 use mathlib.Core.Path.{_≡_}
-use mathlib.Core.Logic.{_≢_, _⊎_}
+use mathlib.Core.Logic.{_≢_}
 use mathlib.Core.Bool.{false}
-use mathlib.Core.List.{List}
+use mathlib.Core.List.{List, [], _∷_}
 use lib.ListN.{length}
 use Rattle.format.specs.declared.Format.{Format}
 use Rattle.format.specs.declared.Refusal.the-variants.{State}
-use Rattle.format.specs.Refusals.{Result, value, refused, number}
-use Rattle.frame.specs.Judge.{Judged, judge}
+use Rattle.format.specs.Refusals.{Result, refused, number}
 use Rattle.stream.specs.declared.Answer.{Answer}
 use Rattle.stream.specs.Answers.{Reply, meaning}
 use Rattle.slot.specs.declared.Slot.{Slot}
-use Rattle.slot.specs.Slots.{slotAt, hasKey, place}
+use Rattle.slot.specs.Slots.{slotAt}
 use Rattle.slot.specs.Sound.{sound}
 use Rattle.station.specs.declared.Station.{Station}
 use Rattle.station.specs.declared.Received.{Received}
-use Rattle.station.specs.Receive.{keyOf, receive, after}
-use Rattle.station.specs.Run.{Front}
+use Rattle.station.specs.Stations.{stationOf}
+use Rattle.station.specs.Receive.{receive, concerned, after}
+use Rattle.station.specs.Run.{Call, Ran, Front, run}
 use Rattle.station.specs.Demands.{Demand3On, RoundTripOn}
-use Rattle.table.specs.Front.{stationOf, afterIn}
+use Rattle.table.specs.Front.{afterIn}
 
 -- what a call gives: what its answer says, and the table and the store afterwards
 pub record Given : Type 0 where
@@ -44,18 +44,18 @@ AsFirst =
     → Meets (station .format) (station .slots) store bus image (record { answer = meaning answer; table = table; store = other })
     → (answer ≡ first .answer) × (table ≡ first .station .slots) × (other ≡ last)
 
--- the record that a call concerns: the one that is open with the key of the frame
-pub record Concerned (format : Format) (table : List Slot) (bus : ℕ) (image : List ℕ) (i : ℕ) : Type 0 where
-  pub judged : Judged
-  pub sound : judge format image ≡ value judged
-  pub here : place (hasKey (keyOf bus (judged .frame))) table ≡ i
+-- the answer, the table and the store afterwards are determined
+unfoldable pub OneGiven : Type 0
+OneGiven =
+    (format : Format) (table : List Slot) (store : List ℕ) (bus : ℕ) (image : List ℕ) (given other : Given)
+    → Meets format table store bus image given → Meets format table store bus image other → given ≡ other
 
 -- "updates the one record concerned": every other stays
 unfoldable pub OneRecord : Type 0
 OneRecord =
     (format : Format) (table : List Slot) (store : List ℕ) (bus : ℕ) (image : List ℕ) (given : Given)
     → Meets format table store bus image given
-    → (i : ℕ) → (slotAt (given .table) i ≡ slotAt table i) ⊎ Concerned format table bus image i
+    → (i : ℕ) → i ≢ concerned (stationOf format table) store bus image → slotAt (given .table) i ≡ slotAt table i
 
 -- 21, and nothing changes: what a table that is not sound is given, and "a table of any other length"
 abbrev pub Refuses : Format → List Slot → Type 0
@@ -75,6 +75,8 @@ OtherLength = (format : Format) (table : List Slot) → length table ≢ 16 → 
 abbrev pub Second : Type 0
 Second = Format → List Slot → List ℕ → (bus : ℕ) → List ℕ → Given
 
+-- each call meets the contract. The arguments are lists of any numbers, as those of `receive` are; the code meets it where they are
+-- bytes, and there it gives what this function gives (OneGiven)
 unfoldable pub AlwaysMeets : Second → Type 0
 AlwaysMeets second =
     (format : Format) (table : List Slot) (store : List ℕ) (bus : ℕ) (image : List ℕ)
@@ -94,3 +96,25 @@ pub record OnTable : Type 0 where
   -- and the premise can be met
   pub second : Second
   pub meets : AlwaysMeets second
+
+-- the same seen from the code: calls one after the other, each given the table and the store that the last left, where each meets
+-- the contract at its own arguments
+unfoldable pub Chained : Format → List Slot → List ℕ → List Call → List Given → Type 0
+Chained format table store [] [] = Unit {0}
+Chained format table store [] (given ∷ givens) = ⊥
+Chained format table store (call ∷ calls) [] = ⊥
+Chained format table store (call ∷ calls) (given ∷ givens) =
+    Meets format table store (call .bus) (call .image) given × Chained format (given .table) (given .store) calls givens
+
+-- the answers given, and the table and the store in the end
+unfoldable pub ended : Format → List Slot → List ℕ → List Given → Ran
+ended format table store [] = record { answers = []; station = stationOf format table; store = store }
+ended format table store (given ∷ givens) =
+    let rest = ended format (given .table) (given .store) givens in
+    record { answers = given .answer ∷ rest .answers; station = rest .station; store = rest .store }
+
+-- they are those of the run on the first front, of which the demands speak
+unfoldable pub AsRun : Type 0
+AsRun =
+    (format : Format) (calls : List Call) (table : List Slot) (store : List ℕ) (givens : List Given)
+    → Chained format table store calls givens → ended format table store givens ≡ run (stationOf format table) store calls

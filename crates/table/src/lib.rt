@@ -8,8 +8,9 @@ use stream::Answer;
 ghost use mathlib.Core.Path.{_≡_};
 ghost use lib.ListN.{length};
 ghost use Rattle.stream.specs.Answers.{meaning};
+ghost use Rattle.station.specs.Stations.{stationOf};
 ghost use Rattle.station.specs.Receive.{receive};
-ghost use Rattle.table.specs.Front.{stationOf, afterIn};
+ghost use Rattle.table.specs.Front.{afterIn};
 
 // The sixteen records of a table, by value.
 fn load(table: &[Slot]) -> [Slot; 16]
@@ -36,9 +37,9 @@ fn load(table: &[Slot]) -> [Slot; 16]
     ]
 }
 
-// Receives an image on a bus, as Station::receive does, with the slots as a lent table; at most the
-// one record that the frame concerns is stored to. A table of another length than 16 is refused with
-// STATE, as is one that is not sound.
+// Receives an image on a bus, as Station::receive does, with the slots as a lent table. Only the record
+// that the call concerns is stored to, and none where it concerns none: take_turn names it. A table
+// of another length than 16 is refused with STATE, as is one that is not sound.
 pub fn receive(
     format: Format,
     table: &mut [Slot],

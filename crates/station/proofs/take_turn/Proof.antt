@@ -1,16 +1,20 @@
 -- `station::take_turn` meets its contract: each refusal in its order, else the slot of the frame's key steps (Turning).
-use mathlib.Core.Path.{ap, sym, _∙_}
+use mathlib.Core.Path.{_≡_, ap, sym, _∙_}
+use lib.ListN.{length}
 use native.Mathlib.Omega.{arith}
 use Rattle.format.specs.Refusals as answers
 use Rattle.frame.specs.declared.Verdict.{Verdict}
 use Rattle.frame.specs.Judge.{meaning}
-use Rattle.station.proofs.Turning.{at-image, at-state, at-store, at-field, at-none, at-slot, Leaves, names-none, Found, found}
+use Rattle.station.proofs.Turning.{on-image, on-state, on-store, on-field, on-none, on-frame, at-image, at-state, at-store, at-field, at-none, at-slot, Leaves, names-none, Found, found}
 use borrow.Author.Needs.{needs}
 use Rattle.station.proofs.take_turn.Statement.{statement}
 use Rattle.station.proofs.take_turn.Tie as tie
 
+sixteen : (c : tie.Start) → length (c .args .t2) ≡ 16
+sixteen c = c .good .1 .0 .1 .0 .1
+
 abbrev none : (c : tie.Start) → Leaves (c .args .t2)
-none c = names-none (c .args .t2) (c .good .1 .0 .1 .0 .1)
+none c = names-none (c .args .t2) (sixteen c)
 
 -- the image is a frame, and its key has been sought among sound slots
 located : (c : tie.After-known-told4)
@@ -62,7 +66,7 @@ returns c =
     let g = a .args in
     let l = located d in
     rw (c .unchanged3 .ensures)
-    (at-store (g .format) (g .t2) (g .store .now) (g .bus) (g .image .now) (none a) (l .ok) (omega arith))
+    (on-store (g .format) (g .t2) (g .store .now) (g .bus) (g .image .now) (l .ok) (omega arith), at-store (g .format) (g .t2) (g .store .now) (g .bus) (g .image .now) (none a) (l .ok) (omega arith))
 
 unchanged-requires-4 : tie.Need-unchanged-requires-4
 unchanged-requires-4 c κs = search needs
@@ -74,7 +78,7 @@ returns-2 c =
     let g = a .args in
     let l = located d in
     rw (c .unchanged4 .ensures)
-    (at-field (g .format) (g .t2) (g .store .now) (g .bus) (g .image .now) (none a) (l .ok) (omega arith) (omega arith))
+    (on-field (g .format) (g .t2) (g .store .now) (g .bus) (g .image .now) (l .ok) (omega arith) (omega arith), at-field (g .format) (g .t2) (g .store .now) (g .bus) (g .image .now) (none a) (l .ok) (omega arith) (omega arith))
 
 unchanged-requires-5 : tie.Need-unchanged-requires-5
 unchanged-requires-5 c κs = search needs
@@ -85,8 +89,10 @@ returns-3 c =
     let a = d .before .before .before .before .before .before .before .before .before .before .before in
     let g = a .args in
     let l = located d in
-    rw (c .unchanged5 .ensures)
-    (at-none (g .format) (g .t2) (g .store .now) (g .bus) (g .image .now) (none a) (l .ok) (omega arith) (omega arith) _ (l .judged) _ (l .placed) (omega arith))
+    rw (c .unchanged5 .ensures) (
+      on-none (g .format) (g .t2) (g .store .now) (g .bus) (g .image .now) (sixteen a) (l .ok) (omega arith) (omega arith) _ (l .judged) _ (l .placed) (omega arith),
+      at-none (g .format) (g .t2) (g .store .now) (g .bus) (g .image .now) (none a) (l .ok) (omega arith) (omega arith) _ (l .judged) _ (l .placed) (omega arith),
+    )
 
 mul-slot : tie.Need-mul-slot
 mul-slot c = search needs
@@ -105,14 +111,14 @@ returns-4 c =
     let image = g .image .now in
     let e = ap (λ (v : Verdict). meaning v image) (sym (c .before .before .before .own .given .1)) ∙ c .before .before .before .before .before .judge .ensures in
     rw (c .unchanged .ensures, c .before .refused-as .ensures)
-    (at-image (g .format) (g .t2) (g .store .now) (g .bus) image (none a) _ e)
+    (on-image (g .format) (g .t2) (g .store .now) (g .bus) image (c .before .before .before .own .given .0 .0) e, at-image (g .format) (g .t2) (g .store .now) (g .bus) image (none a) _ e)
 
 returns-5 : tie.Need-returns-5
 returns-5 c =
     let a = c .before .before .before .before .before .before .before .before .before .before .before .before in
     let g = a .args in
     let e = ap answers.meaning (sym (c .before .before .name .given .1)) ∙ c .before .before .before .before .seek .ensures in
-    rw (c .unchanged2 .ensures) (at-state (g .format) (g .t2) (g .store .now) (g .bus) (g .image .now) (none a) _ (c .before .before .name .given .0 .0) e)
+    rw (c .unchanged2 .ensures) (on-state (g .format) (g .t2) (g .store .now) (g .bus) (g .image .now) _ (c .before .before .name .given .0 .0) e, at-state (g .format) (g .t2) (g .store .now) (g .bus) (g .image .now) (none a) _ (c .before .before .name .given .0 .0) e)
 
 same-length : tie.Need-same-length
 same-length c = search needs
@@ -123,7 +129,10 @@ returns-6 c =
     let a = d .before .before .before .before .before .before .before .before .before .before .before in
     let g = a .args in
     let l = located d in
-    at-slot (g .format) (g .t2) (g .store .now) (g .bus) (g .image .now) (l .ok) (omega arith) (omega arith) _ (l .judged) _ (l .placed) (omega arith) _ _ (c .before .before .step-at .ensures)
+    let t = c .before .before .step-at .ensures in (
+      t .at ∙ sym (l .placed) ∙ on-frame (g .format) (g .t2) (g .store .now) (g .bus) (g .image .now) (l .ok) (omega arith) (omega arith) _ (l .judged),
+      at-slot (g .format) (g .t2) (g .store .now) (g .bus) (g .image .now) (l .ok) (omega arith) (omega arith) _ (l .judged) _ (l .placed) (omega arith) _ _ t,
+    )
 
 pub take-turn-spec : {M : Type 1} → statement M
 take-turn-spec =

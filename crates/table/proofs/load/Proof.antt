@@ -40,7 +40,7 @@ use denote.Triple.Walked.{says, needs, Stays, stay-none-slice, walkOf, goes-none
 use denote.Exit.{yes}
 use Rattle.slot.specs.Slots.{closedSlot}
 use Rattle.slot.specs.declared.Slot.{Slot}
-use Rattle.table.proofs.Row.{val, slots-val, look-elem, row-knows, tabulate, listed}
+use Rattle.table.proofs.Row.{val, slots-val, slot-typed, within, look-elem, row-knows, tabulate, listed}
 use Rattle.slot.proofs.Slot as S
 use Rattle.slot.proofs.Slot.Laws as S′
 use Rattle.table.proofs.load.Key.{name as #key}
@@ -71,15 +71,9 @@ module _ {M : Type 1} (𝓤 : URA M) (H : Heap 𝓤) (A : Atoms 𝓤) (W : Given
       nothing ! $ move ! (1 ∷ 0 ∷ []) $ join ! $ frame ! $ nothing ! $ move ! (1 ∷ 0 ∷ []) $ fjoin ! $
       owned ! (Array S.the-row 16) (Is (Array S.the-row 16)) (array-makes 𝓤 H A W S.the-row (LL.makes S.the-type S′.the-plain 𝓤 H A) 16) ys _ g $ move ! (1 ∷ 0 ∷ []) $ done !
 
-  within : (k : ℕ) → k < 16 → k < length ys
-  within k h = subst (λ (m : ℕ). k < m) (sym sixteen) h
-
   -- the machine values of the sixteen, one by one, are those of the list
   each-val : map val (tabulate (λ k. getD ys k closedSlot) 16) ≡ map val ys
   each-val = ap (λ (l : List Slot). map val l) (listed closedSlot 16 ys sixteen)
-
-  typed : (y : Slot) → Is S.the-row y (val y ∷ []) → Holds (hasTy S′.mir (val y)) × WT (val y)
-  typed y g = LL.lawful S.the-type S′.the-laws 𝓤 H A W .typed y _ g .0
 
   all-typed : Is (Array S.the-row 16) ys (slots-val ys) → Holds (hasTy (tyArray S′.mir 16) (arrayVal (map val (tabulate (λ k. getD ys k closedSlot) 16)))) × WT (arrayVal (map val (tabulate (λ k. getD ys k closedSlot) 16)))
   all-typed g = subst (λ (us : List Val). Holds (hasTy (tyArray S′.mir 16) (arrayVal us)) × WT (arrayVal us)) (sym each-val) (array-lawful 𝓤 H A W S.the-row (LL.lawful S.the-type S′.the-laws 𝓤 H A W) 16 .typed ys _ g .0)
@@ -93,43 +87,43 @@ module _ {M : Type 1} (𝓤 : URA M) (H : Heap 𝓤) (A : Atoms 𝓤) (W : Given
         -- the slice is Copy: one copy of what it owns is kept for the exit, and the other is looked into
         move ! (69 ∷ []) $ fsplit ! $ move ! (1 ∷ []) $ drop ! $ use1 W (‵ Own ⊛ ‵ Own) (shr-slice-copy 𝓤 H A W (named 0) κ S.the-row .twice x (slice ∷ [])) $ split ! $ fsplit ! $ drop ! $ fsplit ! $ drop ! $ move ! (70 ∷ []) $ split ! $ move ! (2 ∷ 0 ∷ []) $
         looks-slice ! tt S.the-row (Is S.the-row) (shows 𝓤 H A S.the-row) (LL.vals S.the-type S′.the-laws) (LL.tells S.the-type S′.the-laws) (LL.copy S.the-type S′.the-copy 𝓤 H A W) ys b o (λ q′. row-knows ! q′ ys closedSlot b o (λ are is.
-        -- [the row; what shuts; the fractured borrow; true; what t owns; the locals, the last first, each with what frees it]
+        -- [the row; what shuts; the fractured borrow; true; what the reference owns; the locals, the last first, each with what frees it]
         -- records 0 to 3: where each lies, then what it is
         assigns ! (bin ! (load ! (from ! (fld ! refl (stop !))) (look-in ! 69 (sub ! 0 refl (whole !)))) (lit ! tt) tt) (from ! (stop !)) (init ! 67 refl (tt, tt)) $
-        assigns ! (of-opd ! (load ! (from ! (hop ! (look ! 67 refl) (stop !))) (look-elem ! 0 q′ ys 0 closedSlot b o (within 0 (lit< tt)) _ (omega arith) refl))) (from ! (stop !)) (init ! 65 refl (typed (getD ys 0 closedSlot) (is 0 (within 0 (lit< tt))))) $
+        assigns ! (of-opd ! (load ! (from ! (hop ! (look ! 67 refl) (stop !))) (look-elem ! 0 q′ ys 0 closedSlot b o (within ys sixteen 0 (lit< tt)) _ (omega arith) refl))) (from ! (stop !)) (init ! 65 refl (slot-typed 𝓤 H A W (getD ys 0 closedSlot) (is 0 (within ys sixteen 0 (lit< tt))))) $
         assigns ! (bin ! (load ! (from ! (fld ! refl (stop !))) (look-in ! 69 (sub ! 0 refl (whole !)))) (lit ! tt) tt) (from ! (stop !)) (init ! 63 refl (tt, tt)) $
-        assigns ! (of-opd ! (load ! (from ! (hop ! (look ! 63 refl) (stop !))) (look-elem ! 0 q′ ys 1 closedSlot b o (within 1 (lit< tt)) _ (omega arith) refl))) (from ! (stop !)) (init ! 61 refl (typed (getD ys 1 closedSlot) (is 1 (within 1 (lit< tt))))) $
+        assigns ! (of-opd ! (load ! (from ! (hop ! (look ! 63 refl) (stop !))) (look-elem ! 0 q′ ys 1 closedSlot b o (within ys sixteen 1 (lit< tt)) _ (omega arith) refl))) (from ! (stop !)) (init ! 61 refl (slot-typed 𝓤 H A W (getD ys 1 closedSlot) (is 1 (within ys sixteen 1 (lit< tt))))) $
         assigns ! (bin ! (load ! (from ! (fld ! refl (stop !))) (look-in ! 69 (sub ! 0 refl (whole !)))) (lit ! tt) tt) (from ! (stop !)) (init ! 59 refl (tt, tt)) $
-        assigns ! (of-opd ! (load ! (from ! (hop ! (look ! 59 refl) (stop !))) (look-elem ! 0 q′ ys 2 closedSlot b o (within 2 (lit< tt)) _ (omega arith) refl))) (from ! (stop !)) (init ! 57 refl (typed (getD ys 2 closedSlot) (is 2 (within 2 (lit< tt))))) $
+        assigns ! (of-opd ! (load ! (from ! (hop ! (look ! 59 refl) (stop !))) (look-elem ! 0 q′ ys 2 closedSlot b o (within ys sixteen 2 (lit< tt)) _ (omega arith) refl))) (from ! (stop !)) (init ! 57 refl (slot-typed 𝓤 H A W (getD ys 2 closedSlot) (is 2 (within ys sixteen 2 (lit< tt))))) $
         assigns ! (bin ! (load ! (from ! (fld ! refl (stop !))) (look-in ! 69 (sub ! 0 refl (whole !)))) (lit ! tt) tt) (from ! (stop !)) (init ! 55 refl (tt, tt)) $
-        assigns ! (of-opd ! (load ! (from ! (hop ! (look ! 55 refl) (stop !))) (look-elem ! 0 q′ ys 3 closedSlot b o (within 3 (lit< tt)) _ (omega arith) refl))) (from ! (stop !)) (init ! 53 refl (typed (getD ys 3 closedSlot) (is 3 (within 3 (lit< tt))))) $
+        assigns ! (of-opd ! (load ! (from ! (hop ! (look ! 55 refl) (stop !))) (look-elem ! 0 q′ ys 3 closedSlot b o (within ys sixteen 3 (lit< tt)) _ (omega arith) refl))) (from ! (stop !)) (init ! 53 refl (slot-typed 𝓤 H A W (getD ys 3 closedSlot) (is 3 (within ys sixteen 3 (lit< tt))))) $
         -- records 4 to 7: where each lies, then what it is
         assigns ! (bin ! (load ! (from ! (fld ! refl (stop !))) (look-in ! 69 (sub ! 0 refl (whole !)))) (lit ! tt) tt) (from ! (stop !)) (init ! 51 refl (tt, tt)) $
-        assigns ! (of-opd ! (load ! (from ! (hop ! (look ! 51 refl) (stop !))) (look-elem ! 0 q′ ys 4 closedSlot b o (within 4 (lit< tt)) _ (omega arith) refl))) (from ! (stop !)) (init ! 49 refl (typed (getD ys 4 closedSlot) (is 4 (within 4 (lit< tt))))) $
+        assigns ! (of-opd ! (load ! (from ! (hop ! (look ! 51 refl) (stop !))) (look-elem ! 0 q′ ys 4 closedSlot b o (within ys sixteen 4 (lit< tt)) _ (omega arith) refl))) (from ! (stop !)) (init ! 49 refl (slot-typed 𝓤 H A W (getD ys 4 closedSlot) (is 4 (within ys sixteen 4 (lit< tt))))) $
         assigns ! (bin ! (load ! (from ! (fld ! refl (stop !))) (look-in ! 69 (sub ! 0 refl (whole !)))) (lit ! tt) tt) (from ! (stop !)) (init ! 47 refl (tt, tt)) $
-        assigns ! (of-opd ! (load ! (from ! (hop ! (look ! 47 refl) (stop !))) (look-elem ! 0 q′ ys 5 closedSlot b o (within 5 (lit< tt)) _ (omega arith) refl))) (from ! (stop !)) (init ! 45 refl (typed (getD ys 5 closedSlot) (is 5 (within 5 (lit< tt))))) $
+        assigns ! (of-opd ! (load ! (from ! (hop ! (look ! 47 refl) (stop !))) (look-elem ! 0 q′ ys 5 closedSlot b o (within ys sixteen 5 (lit< tt)) _ (omega arith) refl))) (from ! (stop !)) (init ! 45 refl (slot-typed 𝓤 H A W (getD ys 5 closedSlot) (is 5 (within ys sixteen 5 (lit< tt))))) $
         assigns ! (bin ! (load ! (from ! (fld ! refl (stop !))) (look-in ! 69 (sub ! 0 refl (whole !)))) (lit ! tt) tt) (from ! (stop !)) (init ! 43 refl (tt, tt)) $
-        assigns ! (of-opd ! (load ! (from ! (hop ! (look ! 43 refl) (stop !))) (look-elem ! 0 q′ ys 6 closedSlot b o (within 6 (lit< tt)) _ (omega arith) refl))) (from ! (stop !)) (init ! 41 refl (typed (getD ys 6 closedSlot) (is 6 (within 6 (lit< tt))))) $
+        assigns ! (of-opd ! (load ! (from ! (hop ! (look ! 43 refl) (stop !))) (look-elem ! 0 q′ ys 6 closedSlot b o (within ys sixteen 6 (lit< tt)) _ (omega arith) refl))) (from ! (stop !)) (init ! 41 refl (slot-typed 𝓤 H A W (getD ys 6 closedSlot) (is 6 (within ys sixteen 6 (lit< tt))))) $
         assigns ! (bin ! (load ! (from ! (fld ! refl (stop !))) (look-in ! 69 (sub ! 0 refl (whole !)))) (lit ! tt) tt) (from ! (stop !)) (init ! 39 refl (tt, tt)) $
-        assigns ! (of-opd ! (load ! (from ! (hop ! (look ! 39 refl) (stop !))) (look-elem ! 0 q′ ys 7 closedSlot b o (within 7 (lit< tt)) _ (omega arith) refl))) (from ! (stop !)) (init ! 37 refl (typed (getD ys 7 closedSlot) (is 7 (within 7 (lit< tt))))) $
+        assigns ! (of-opd ! (load ! (from ! (hop ! (look ! 39 refl) (stop !))) (look-elem ! 0 q′ ys 7 closedSlot b o (within ys sixteen 7 (lit< tt)) _ (omega arith) refl))) (from ! (stop !)) (init ! 37 refl (slot-typed 𝓤 H A W (getD ys 7 closedSlot) (is 7 (within ys sixteen 7 (lit< tt))))) $
         -- records 8 to 11: where each lies, then what it is
         assigns ! (bin ! (load ! (from ! (fld ! refl (stop !))) (look-in ! 69 (sub ! 0 refl (whole !)))) (lit ! tt) tt) (from ! (stop !)) (init ! 35 refl (tt, tt)) $
-        assigns ! (of-opd ! (load ! (from ! (hop ! (look ! 35 refl) (stop !))) (look-elem ! 0 q′ ys 8 closedSlot b o (within 8 (lit< tt)) _ (omega arith) refl))) (from ! (stop !)) (init ! 33 refl (typed (getD ys 8 closedSlot) (is 8 (within 8 (lit< tt))))) $
+        assigns ! (of-opd ! (load ! (from ! (hop ! (look ! 35 refl) (stop !))) (look-elem ! 0 q′ ys 8 closedSlot b o (within ys sixteen 8 (lit< tt)) _ (omega arith) refl))) (from ! (stop !)) (init ! 33 refl (slot-typed 𝓤 H A W (getD ys 8 closedSlot) (is 8 (within ys sixteen 8 (lit< tt))))) $
         assigns ! (bin ! (load ! (from ! (fld ! refl (stop !))) (look-in ! 69 (sub ! 0 refl (whole !)))) (lit ! tt) tt) (from ! (stop !)) (init ! 31 refl (tt, tt)) $
-        assigns ! (of-opd ! (load ! (from ! (hop ! (look ! 31 refl) (stop !))) (look-elem ! 0 q′ ys 9 closedSlot b o (within 9 (lit< tt)) _ (omega arith) refl))) (from ! (stop !)) (init ! 29 refl (typed (getD ys 9 closedSlot) (is 9 (within 9 (lit< tt))))) $
+        assigns ! (of-opd ! (load ! (from ! (hop ! (look ! 31 refl) (stop !))) (look-elem ! 0 q′ ys 9 closedSlot b o (within ys sixteen 9 (lit< tt)) _ (omega arith) refl))) (from ! (stop !)) (init ! 29 refl (slot-typed 𝓤 H A W (getD ys 9 closedSlot) (is 9 (within ys sixteen 9 (lit< tt))))) $
         assigns ! (bin ! (load ! (from ! (fld ! refl (stop !))) (look-in ! 69 (sub ! 0 refl (whole !)))) (lit ! tt) tt) (from ! (stop !)) (init ! 27 refl (tt, tt)) $
-        assigns ! (of-opd ! (load ! (from ! (hop ! (look ! 27 refl) (stop !))) (look-elem ! 0 q′ ys 10 closedSlot b o (within 10 (lit< tt)) _ (omega arith) refl))) (from ! (stop !)) (init ! 25 refl (typed (getD ys 10 closedSlot) (is 10 (within 10 (lit< tt))))) $
+        assigns ! (of-opd ! (load ! (from ! (hop ! (look ! 27 refl) (stop !))) (look-elem ! 0 q′ ys 10 closedSlot b o (within ys sixteen 10 (lit< tt)) _ (omega arith) refl))) (from ! (stop !)) (init ! 25 refl (slot-typed 𝓤 H A W (getD ys 10 closedSlot) (is 10 (within ys sixteen 10 (lit< tt))))) $
         assigns ! (bin ! (load ! (from ! (fld ! refl (stop !))) (look-in ! 69 (sub ! 0 refl (whole !)))) (lit ! tt) tt) (from ! (stop !)) (init ! 23 refl (tt, tt)) $
-        assigns ! (of-opd ! (load ! (from ! (hop ! (look ! 23 refl) (stop !))) (look-elem ! 0 q′ ys 11 closedSlot b o (within 11 (lit< tt)) _ (omega arith) refl))) (from ! (stop !)) (init ! 21 refl (typed (getD ys 11 closedSlot) (is 11 (within 11 (lit< tt))))) $
+        assigns ! (of-opd ! (load ! (from ! (hop ! (look ! 23 refl) (stop !))) (look-elem ! 0 q′ ys 11 closedSlot b o (within ys sixteen 11 (lit< tt)) _ (omega arith) refl))) (from ! (stop !)) (init ! 21 refl (slot-typed 𝓤 H A W (getD ys 11 closedSlot) (is 11 (within ys sixteen 11 (lit< tt))))) $
         -- records 12 to 15: where each lies, then what it is
         assigns ! (bin ! (load ! (from ! (fld ! refl (stop !))) (look-in ! 69 (sub ! 0 refl (whole !)))) (lit ! tt) tt) (from ! (stop !)) (init ! 19 refl (tt, tt)) $
-        assigns ! (of-opd ! (load ! (from ! (hop ! (look ! 19 refl) (stop !))) (look-elem ! 0 q′ ys 12 closedSlot b o (within 12 (lit< tt)) _ (omega arith) refl))) (from ! (stop !)) (init ! 17 refl (typed (getD ys 12 closedSlot) (is 12 (within 12 (lit< tt))))) $
+        assigns ! (of-opd ! (load ! (from ! (hop ! (look ! 19 refl) (stop !))) (look-elem ! 0 q′ ys 12 closedSlot b o (within ys sixteen 12 (lit< tt)) _ (omega arith) refl))) (from ! (stop !)) (init ! 17 refl (slot-typed 𝓤 H A W (getD ys 12 closedSlot) (is 12 (within ys sixteen 12 (lit< tt))))) $
         assigns ! (bin ! (load ! (from ! (fld ! refl (stop !))) (look-in ! 69 (sub ! 0 refl (whole !)))) (lit ! tt) tt) (from ! (stop !)) (init ! 15 refl (tt, tt)) $
-        assigns ! (of-opd ! (load ! (from ! (hop ! (look ! 15 refl) (stop !))) (look-elem ! 0 q′ ys 13 closedSlot b o (within 13 (lit< tt)) _ (omega arith) refl))) (from ! (stop !)) (init ! 13 refl (typed (getD ys 13 closedSlot) (is 13 (within 13 (lit< tt))))) $
+        assigns ! (of-opd ! (load ! (from ! (hop ! (look ! 15 refl) (stop !))) (look-elem ! 0 q′ ys 13 closedSlot b o (within ys sixteen 13 (lit< tt)) _ (omega arith) refl))) (from ! (stop !)) (init ! 13 refl (slot-typed 𝓤 H A W (getD ys 13 closedSlot) (is 13 (within ys sixteen 13 (lit< tt))))) $
         assigns ! (bin ! (load ! (from ! (fld ! refl (stop !))) (look-in ! 69 (sub ! 0 refl (whole !)))) (lit ! tt) tt) (from ! (stop !)) (init ! 11 refl (tt, tt)) $
-        assigns ! (of-opd ! (load ! (from ! (hop ! (look ! 11 refl) (stop !))) (look-elem ! 0 q′ ys 14 closedSlot b o (within 14 (lit< tt)) _ (omega arith) refl))) (from ! (stop !)) (init ! 9 refl (typed (getD ys 14 closedSlot) (is 14 (within 14 (lit< tt))))) $
+        assigns ! (of-opd ! (load ! (from ! (hop ! (look ! 11 refl) (stop !))) (look-elem ! 0 q′ ys 14 closedSlot b o (within ys sixteen 14 (lit< tt)) _ (omega arith) refl))) (from ! (stop !)) (init ! 9 refl (slot-typed 𝓤 H A W (getD ys 14 closedSlot) (is 14 (within ys sixteen 14 (lit< tt))))) $
         assigns ! (bin ! (load ! (from ! (fld ! refl (stop !))) (look-in ! 69 (sub ! 0 refl (whole !)))) (lit ! tt) tt) (from ! (stop !)) (init ! 7 refl (tt, tt)) $
-        assigns ! (of-opd ! (load ! (from ! (hop ! (look ! 7 refl) (stop !))) (look-elem ! 0 q′ ys 15 closedSlot b o (within 15 (lit< tt)) _ (omega arith) refl))) (from ! (stop !)) (init ! 5 refl (typed (getD ys 15 closedSlot) (is 15 (within 15 (lit< tt))))) $
+        assigns ! (of-opd ! (load ! (from ! (hop ! (look ! 7 refl) (stop !))) (look-elem ! 0 q′ ys 15 closedSlot b o (within ys sixteen 15 (lit< tt)) _ (omega arith) refl))) (from ! (stop !)) (init ! 5 refl (slot-typed 𝓤 H A W (getD ys 15 closedSlot) (is 15 (within ys sixteen 15 (lit< tt))))) $
         let g = subst (λ (m : ℕ). Is (Array S.the-row m) ys (slots-val ys)) sixteen are in
         -- the array of them
         assigns ! (agg ! (and-then ! (load ! (from ! (stop !)) (look ! 65 refl)) (and-then ! (load ! (from ! (stop !)) (look ! 61 refl)) (and-then ! (load ! (from ! (stop !)) (look ! 57 refl)) (and-then ! (load ! (from ! (stop !)) (look ! 53 refl)) (and-then ! (load ! (from ! (stop !)) (look ! 49 refl)) (and-then ! (load ! (from ! (stop !)) (look ! 45 refl)) (and-then ! (load ! (from ! (stop !)) (look ! 41 refl)) (and-then ! (load ! (from ! (stop !)) (look ! 37 refl)) (and-then ! (load ! (from ! (stop !)) (look ! 33 refl)) (and-then ! (load ! (from ! (stop !)) (look ! 29 refl)) (and-then ! (load ! (from ! (stop !)) (look ! 25 refl)) (and-then ! (load ! (from ! (stop !)) (look ! 21 refl)) (and-then ! (load ! (from ! (stop !)) (look ! 17 refl)) (and-then ! (load ! (from ! (stop !)) (look ! 13 refl)) (and-then ! (load ! (from ! (stop !)) (look ! 9 refl)) (and-then ! (load ! (from ! (stop !)) (look ! 5 refl)) (no-more !)))))))))))))))))) (from ! (stop !)) (init ! 71 refl (all-typed g)) $

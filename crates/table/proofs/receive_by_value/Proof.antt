@@ -1,7 +1,8 @@
--- `table::receive_by_value` meets its contract: a walk of its MIR, by hand. The array is copied into the local _6, which is lent as a
--- `&mut [Slot]` for a lifetime of the call, and comes back; the store is passed on for good, and the image is Copy. `exits` says that what
--- is owned at the end is what the contract asks; `walk` is all of the code, in its order. In a context the locals stand last, from _12
--- down to _0, each with what frees it; comments in brackets say what stands in front of them.
+-- `table::receive_by_value` meets its contract: a walk of its MIR, by hand. The array is copied into the local _6, which is lent
+-- as a `&mut [Slot]` for a lifetime of the call, and comes back; the store goes to the callee and does not come back, and the
+-- image is Copy. `exits` says that what is owned at the end is what the contract asks; `walk` is all of the code, in its order. In
+-- a context the locals stand last, from _12 down to _0, each with what frees it; comments in brackets say what stands in front of
+-- them.
 use mathlib.Core.Path.{_≡_, refl, sym, _∙_, ap, subst}
 use Prim.Native.Nat.{ℕ, _<_, _^_}
 use mathlib.Core.List.{[], _∷_, List}
@@ -52,10 +53,11 @@ use Rattle.stream.specs.declared.Answer.{Answer}
 use Rattle.slot.specs.declared.Slot.{Slot}
 use Rattle.slot.specs.Slots.{closedSlot}
 use Rattle.stream.specs.Answers.{meaning}
+use Rattle.station.specs.Stations.{stationOf}
 use Rattle.station.specs.Receive.{receive}
 use Rattle.table.specs.declared.Lent.{Lent}
-use Rattle.table.specs.Front.{stationOf, afterIn}
-use Rattle.table.proofs.Row.{val, slots-val, row-knows, cell-row, row-cell, field-val, as-field}
+use Rattle.table.specs.Front.{afterIn}
+use Rattle.table.proofs.Row.{slots-val, row-knows, cell-row, row-cell, field-val, as-field}
 use Rattle.slot.proofs.Slot as S
 use Rattle.slot.proofs.Slot.Laws as S′
 use Rattle.format.proofs.Format as F
@@ -163,6 +165,12 @@ module _ {M : Type 1} (𝓤 : URA M) (H : Heap 𝓤) (A : Atoms 𝓤) (W : Given
   typed : (l : List Slot) → IsArr l → Holds (hasTy (tyArray S′.mir 16) (only (slots-val l))) × WT (only (slots-val l))
   typed l g = array-lawful 𝓤 H A W S.the-row (LL.lawful S.the-type S′.the-laws 𝓤 H A W) 16 .typed l _ g .0
 
+  whole-is : (zs : List Slot) → length zs ≡ 16 → Is (Array S.the-row (length zs)) zs (slots-val zs) → IsArr zs
+  whole-is zs n g = subst (λ (m : ℕ). Is (Array S.the-row m) zs (slots-val zs)) n g
+
+  answer-is : (r : Answer) (w : Val) → Is N.the-row r (w ∷ []) → Is N.the-row r (ans r ∷ [])
+  answer-is r w is = subst (Is N.the-row r) (LE.tells N.the-type N′.the-laws r (w ∷ []) is) is
+
   both-typed : (zs : List Slot) (r : Answer) → IsArr zs → Is N.the-row r (ans r ∷ [])
       → Holds (hasTy L′.mir (vstruct (vcons (only (slots-val zs)) (vcons (ans r) vnil)))) × WT (vstruct (vcons (only (slots-val zs)) (vcons (ans r) vnil)))
   both-typed zs r gz gr =
@@ -200,19 +208,19 @@ module _ {M : Type 1} (𝓤 : URA M) (H : Heap 𝓤) (A : Atoms 𝓤) (W : Given
         split ! $ move ! (1 ∷ []) $ use1 W (some (λ (ws : Unit {0} × (List Slot × (List ℕ × (Unit {0} × (Unit {0} × Unit {0}))))). ‵ (lasts one.ended (ν ∷ [], (κ₀, (κ₁, tt))) (args l₆ δ) ws) ⊛ raw (fact 𝓤 (afterIn f (meaning r) (ws .1 .0) (ws .1 .1 .0) ≡ receive (stationOf f ys) st v im)))) (id⊢ 𝓤 _) $ pick ! (λ ws.
         split ! $ move ! (1 ∷ []) $ heard ! (afterIn f (meaning r) (ws .1 .0) (ws .1 .1 .0) ≡ receive (stationOf f ys) st v im) (λ e. fsplit ! $ drop ! $ fsplit ! $ fsplit ! $ move ! (1 ∷ []) $ feqL ! (λ len. move ! (1 ∷ []) $ fsplit ! $ fsplit ! $ move ! (1 ∷ []) $ feqL ! (λ len₁. move ! (1 ∷ []) $ drop ! $
         move ! (2 ∷ []) $ split ! $ split ! $ move ! (1 ∷ []) $ split ! $ move ! (1 ∷ []) $ split ! $ move ! (1 ∷ []) $ drop ! $ move ! (3 ∷ []) $ peeks ! N.the-row (Is N.the-row) (shows 𝓤 H A N.the-row) r (w ∷ []) (λ is.
-        -- [what r owns; κ₁'s token; κ₀'s; ν's; the store's last list; the table's; the image; the lender's part; the locals but t's cell]
+        -- [what r owns; κ₁'s token; κ₀'s; ν's; the store's last list; the table's; the image; the lender's part; the locals but _6's cell]
         land ! (from ! (stop !)) (init ! 18 refl (LE.lawful N.the-type N′.the-laws 𝓤 H A W tt .typed r _ is .0)) $ rewrite ! 18 (λ (u : Val). ‵ (fat fullShare N′.mir l₇ 0 u)) (ap only (LE.tells N.the-type N′.the-laws r (w ∷ []) is)) refl $ drop ! $
         -- the lifetime is ended, and the local is back
         move ! (2 ∷ []) $ lft-end ! tt $ move ! (0 ∷ 6 ∷ 4 ∷ []) $ use3 W (later (‵ (Arr (mem S.the-row) (length ys) .lies (ws .1 .0) l₆ 0))) (slice-back 𝓤 H A W S.the-row (ν ∷ []) δ (ws .1 .0) (length ys) l₆ 0) $ await ! tt $ fsplit ! $ drop ! $
         use1 W (‵ (row S.the-row fullShare (ws .1 .0) l₆ 0)) (whole-out 𝓤 H A W S.the-row (ws .1 .0) l₆ 0) $ row-knows ! fullShare (ws .1 .0) closedSlot l₆ 0 (λ gz₀ _.
         use1 W (‵ (fat fullShare (tyArray S′.mir 16) l₆ 0 (only (slots-val (ws .1 .0))))) (row-cell 𝓤 H A W (ws .1 .0) (len ∙ sixteen) l₆ 0) $
         -- [_6's cell; κ₁'s token; κ₀'s; the store's last list; the image; the locals but _6's cell]: the struct is made
-        assigns ! (of-opd ! (load ! (from ! (stop !)) (look ! 0 refl))) (from ! (stop !)) (init ! 5 refl (typed (ws .1 .0) (subst (λ (m : ℕ). Is (Array S.the-row m) (ws .1 .0) (slots-val (ws .1 .0))) (len ∙ sixteen) gz₀))) $
-        assigns ! (agg ! (and-then ! (load ! (from ! (stop !)) (look ! 5 refl)) (and-then ! (load ! (from ! (stop !)) (look ! 15 refl)) (no-more !)))) (from ! (stop !)) (init ! 28 refl (both-typed (ws .1 .0) r (subst (λ (m : ℕ). Is (Array S.the-row m) (ws .1 .0) (slots-val (ws .1 .0))) (len ∙ sixteen) gz₀) (subst (Is N.the-row r) (LE.tells N.the-type N′.the-laws r (w ∷ []) is) is))) $
+        assigns ! (of-opd ! (load ! (from ! (stop !)) (look ! 0 refl))) (from ! (stop !)) (init ! 5 refl (typed (ws .1 .0) (whole-is (ws .1 .0) (len ∙ sixteen) gz₀))) $
+        assigns ! (agg ! (and-then ! (load ! (from ! (stop !)) (look ! 5 refl)) (and-then ! (load ! (from ! (stop !)) (look ! 15 refl)) (no-more !)))) (from ! (stop !)) (init ! 28 refl (both-typed (ws .1 .0) r (whole-is (ws .1 .0) (len ∙ sixteen) gz₀) (answer-is r w is))) $
         rewrite ! 28 (λ (u : Val). ‵ (fat fullShare L′.mir l₀ 0 (vstruct (vcons u (vcons (ans r) vnil))))) (field-val (ws .1 .0)) refl $
         returns ! (look ! 28 refl) $ forget ! 0 refl $ forget ! 28 refl $ forget ! 26 refl $ forget ! 24 refl $ forget ! 22 refl $ forget ! 20 refl $ forget ! 18 refl $ forget ! 15 refl $ forget ! 13 refl $ forget ! 11 refl $ forget ! 9 refl $ forget ! 7 refl $ forget ! 5 refl $
         move ! (28 ∷ 29 ∷ []) $ free1 ! $ move ! (26 ∷ 27 ∷ []) $ free1 ! $ move ! (24 ∷ 25 ∷ []) $ free1 ! $ move ! (22 ∷ 23 ∷ []) $ free1 ! $ move ! (20 ∷ 21 ∷ []) $ free1 ! $ move ! (18 ∷ 19 ∷ []) $ free1 ! $ move ! (0 ∷ 17 ∷ []) $ free1 ! $ move ! (14 ∷ 15 ∷ []) $ free1 ! $ move ! (12 ∷ 13 ∷ []) $ free1 ! $ move ! (10 ∷ 11 ∷ []) $ free1 ! $ move ! (8 ∷ 9 ∷ []) $ free1 ! $ move ! (6 ∷ 7 ∷ []) $ free1 ! $ move ! (4 ∷ 5 ∷ []) $ free1 ! $ free0 ! $
-        by ! (exits (ws .1 .0) r (ws .1 .1 .0) e len₁ gy gf gv (subst (λ (m : ℕ). Is (Array S.the-row m) (ws .1 .0) (slots-val (ws .1 .0))) (len ∙ sixteen) gz₀) (subst (Is N.the-row r) (LE.tells N.the-type N′.the-laws r (w ∷ []) is) is)))))))))))))))))))))))))
+        by ! (exits (ws .1 .0) r (ws .1 .1 .0) e len₁ gy gf gv (whole-is (ws .1 .0) (len ∙ sixteen) gz₀) (answer-is r w is)))))))))))))))))))))))))
 
 module _ {M : Type 1} (𝓤 : URA M) (H : Heap 𝓤) (A : Atoms 𝓤) (W : Given 𝓤 H A) (at-mem : Memory → SProp 𝓤) (run : Routine → Fun 𝓤) where
   walks : (C : Calls 𝓤 H) (Λ : Loops 𝓤 H) → FmC 𝓤 H (W .laws) C → Triple 𝓤 (C #one) (One 𝓤 H A at-mem run) → Walks 𝓤 H A fn.ended stayed (WpFn 𝓤 H C Λ code.function) (fn.clauses 𝓤 H A at-mem run)

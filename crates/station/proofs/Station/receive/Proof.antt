@@ -30,7 +30,7 @@ returns-2 c =
     let a = c .before .before .before .before .before .before .before .before .before in
     let t = c .before .before .before .before .take-turn in
     let len : length (a .args .t1 .slots) ≡ 16 = sym (length-map (a .args .t1 .slots) _) ∙ a .good .0 .1 .1 .1 .0 .1 .0 .1 in
-    none-named (a .args .t1 .format) (a .args .t1 .slots) len (t .result) _ (omega (arith, c .if1 .left)) ∙ t .ensures
+    none-named (a .args .t1 .format) (a .args .t1 .slots) len (t .result) _ (omega (arith, c .if1 .left)) ∙ t .ensures .1
 
 pub receive-spec : {M : Type 1} → statement M
 receive-spec = tie.close (tie.spec take-turn-requires mul-slot element-set-from-slot same-length returns same-length-2 returns-2)
