@@ -75,8 +75,8 @@ letIn station store bus image =
 unfoldable pub receive : Station → List ℕ → (bus : ℕ) → List ℕ → After
 receive station store bus image = judgedAs station store bus (letIn station store bus image)
 
--- the slot that a call concerns: the one that is open with the frame's key; 16, which is none, where there is no such slot or no
--- frame
+-- the slot that a call concerns: the one that is open with the frame's key, also where that stream answers ORPHAN, STEP or LONG; 16,
+-- which is none of sixteen, where the call is refused by 21, 13, 9 or 1 to 5, or no slot is open with the key
 abbrev pub concernedBy : List Slot → (bus : ℕ) → Result (Result Judged) → ℕ
 concernedBy slots bus (refused n) = 16
 concernedBy slots bus (value (refused n)) = 16

@@ -1,4 +1,4 @@
--- Document 01, "Streams and receiving", last two paragraphs but one: a run, a stream's frames, the one-stream receiver.
+-- Document 01, "Streams and receiving", the two paragraphs before the last: a run, a stream's frames, the one-stream receiver.
 use Prim.Native.Nat.{ℕ}
 use mathlib.Core.Bool.{cond}
 use mathlib.Core.List.{List, [], _∷_}

@@ -46,7 +46,8 @@ pub struct Received {
     pub answer: Answer,
 }
 
-// One receiving turn over the bare slots: the slot concerned, what it becomes, and the answer.
+// One receiving turn over the bare slots: the slot concerned, what it becomes, and the answer. Where
+// none is concerned, at is 16 and slot is any.
 pub struct Turn {
     pub at: usize,
     pub slot: Slot,
@@ -148,7 +149,7 @@ fn step_at(
     }
 }
 
-// No slot changes; some slot has to stand in the turn.
+// No slot is concerned; some slot has to stand in the turn.
 fn unchanged(slot: Slot, answer: Answer) -> Turn
     ensures { λ r. ⌜ r ≡ record { at = 16; slot = slot; answer = answer } ⌝ }
 {
@@ -160,7 +161,7 @@ fn unchanged(slot: Slot, answer: Answer) -> Turn
 }
 
 // Receives an image on a bus, over the bare slots and the lent store: the work of every front, which
-// has only to store the slot named, if it is one. 16 names none.
+// has only to store the slot named, if one is.
 pub fn take_turn(format: Format, slots: [Slot; 16], store: &mut [u8], bus: u8, image: &[u8]) -> Turn
     ensures { λ r. ⌜ (r .at ≡ concerned (stationOf format slots) (now (store .entry)) bus (now (image .entry))) × (afterTurn format slots r (now (store .exit)) ≡ receive (stationOf format slots) (now (store .entry)) bus (now (image .entry))) ⌝ }
 {

@@ -1,7 +1,7 @@
 -- The two fronts meet one definition, so that whatever holds of calls and runs on the first holds on the second (`on-table`): it is carried
--- over, with no induction over calls.
+-- over, with no induction over calls. `as-run` has the only one, by which calls one after the other are a run.
 use Prim.Native.Nat.{ℕ}
-use mathlib.Core.Path.{_≡_, refl, sym, ap, _∙_, subst}
+use mathlib.Core.Path.{_≡_, refl, sym, ap, _∙_, subst, subst₂}
 use mathlib.Core.Logic.{_≢_}
 use mathlib.Core.Bool.{Bool, true, false, cond}
 use mathlib.Core.List.{List, [], _∷_}
@@ -20,11 +20,11 @@ use Rattle.slot.specs.Slots.{closedSlot, slotAt, hasKey, place}
 use Rattle.station.specs.Stations.{stationOf}
 use Rattle.station.specs.Receive.{After, unchanged, keyOf, judgedAs, letIn, deliver, stepAt, receive, concernedBy, concerned}
 use Rattle.station.specs.Run.{Ran, runOn, run}
-use Rattle.station.specs.Demands.{Demand3On, RoundTripOn}
+use Rattle.station.specs.Demands.{Isolated, Agree, Demand3On, RoundTripOn}
 use Rattle.station.proofs.Isolation.{demand3}
 use Rattle.station.proofs.RoundTrip.{round-trip}
 use Rattle.table.specs.Front.{afterIn}
-use Rattle.table.specs.Claims.{Given, AsFirst, OneGiven, OneRecord, NotSound, OtherLength, Second, AlwaysMeets, onTable, OnTable, Chained, ended, AsRun}
+use Rattle.table.specs.Claims.{Given, AsFirst, OneGiven, OneRecord, NotSound, OtherLength, Second, AlwaysMeets, onTable, OnTable, Chained, ended, AsRun, Demand3OnCalls}
 use Rattle.table.proofs.Refused.{unsound-length, unsound-refused}
 
 pub as-first : AsFirst
@@ -122,7 +122,8 @@ on-table =
       meets = as-given-meets;
     }
 
--- seen from the code: the one induction, over the calls, by which a chain is a run
+-- ---- calls one after the other
+
 pub as-run : AsRun
 unfolding AsRun Chained ended runOn
 as-run format [] table store [] c = refl
@@ -133,3 +134,14 @@ as-run format (call ∷ calls) table store (given ∷ givens) c =
     let on : Ran → After → Ran = λ ran first. record { answers = first .answer ∷ ran .answers; station = ran .station; store = ran .store } in
     ap (λ (ran : Ran). on ran (afterIn format (given .answer) (given .table) (given .store))) rest
     ∙ ap (λ (first : After). on (run (first .station) (first .store) calls) first) (c .0)
+
+pub demand3-on-calls : Demand3OnCalls
+unfolding Demand3OnCalls AsRun Demand3On
+demand3-on-calls format table store s w =
+    let of-run = demand3 (stationOf format table) store s w in (
+      λ calls givens c.
+          subst (Isolated (stationOf format table) store calls) (sym (as-run format calls table store givens c)) (of-run .0 calls),
+      λ calls others givens other-givens c d same.
+          subst₂ (Agree (stationOf format table) calls others) (sym (as-run format calls table store givens c))
+          (sym (as-run format others table store other-givens d)) (of-run .1 calls others same),
+    )

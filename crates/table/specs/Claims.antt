@@ -1,9 +1,9 @@
 -- What is promised of the second front. Each claim is about whatever meets the contract of `table::receive`. `AsFirst`, `OneGiven`,
--- `OneRecord`, `NotSound` and `OtherLength` are of one call, `OnTable` and `AsRun` of runs. Proofs: proofs/Fronts.antt.
+-- `OneRecord`, `NotSound` and `OtherLength` are of one call, `OnTable`, `AsRun` and `Demand3OnCalls` of runs. Proofs: proofs/Fronts.antt.
 use Prim.Native.Nat.{ℕ}
 use mathlib.Core.Path.{_≡_}
 use mathlib.Core.Logic.{_≢_}
-use mathlib.Core.Bool.{false}
+use mathlib.Core.Bool.{true, false}
 use mathlib.Core.List.{List, [], _∷_}
 use lib.ListN.{length}
 use Rattle.format.specs.declared.Format.{Format}
@@ -16,10 +16,10 @@ use Rattle.slot.specs.Slots.{slotAt}
 use Rattle.slot.specs.Sound.{sound}
 use Rattle.station.specs.declared.Station.{Station}
 use Rattle.station.specs.declared.Received.{Received}
-use Rattle.station.specs.Stations.{stationOf}
+use Rattle.station.specs.Stations.{stationOf, fullSize}
 use Rattle.station.specs.Receive.{receive, concerned, after}
 use Rattle.station.specs.Run.{Call, Ran, Front, run}
-use Rattle.station.specs.Demands.{Demand3On, RoundTripOn}
+use Rattle.station.specs.Demands.{Isolated, SameFrames, Agree, Demand3On, RoundTripOn}
 use Rattle.table.specs.Front.{afterIn}
 
 -- what a call gives: what its answer says, and the table and the store afterwards
@@ -50,7 +50,7 @@ OneGiven =
     (format : Format) (table : List Slot) (store : List ℕ) (bus : ℕ) (image : List ℕ) (given other : Given)
     → Meets format table store bus image given → Meets format table store bus image other → given ≡ other
 
--- "updates the one record concerned": every other stays
+-- "updates the one record concerned": every other stays. In a table of another length all stay (OtherLength)
 unfoldable pub OneRecord : Type 0
 OneRecord =
     (format : Format) (table : List Slot) (store : List ℕ) (bus : ℕ) (image : List ℕ) (given : Given)
@@ -113,8 +113,18 @@ ended format table store (given ∷ givens) =
     let rest = ended format (given .table) (given .store) givens in
     record { answers = given .answer ∷ rest .answers; station = rest .station; store = rest .store }
 
--- they are those of the run on the first front, of which the demands speak
+-- they are those of the run on the first front
 unfoldable pub AsRun : Type 0
 AsRun =
     (format : Format) (calls : List Call) (table : List Slot) (store : List ℕ) (givens : List Given)
     → Chained format table store calls givens → ended format table store givens ≡ run (stationOf format table) store calls
+
+-- so demand 3 holds of such calls, for every sound table and full-size store
+unfoldable pub Demand3OnCalls : Type 0
+Demand3OnCalls =
+    (format : Format) (table : List Slot) (store : List ℕ) → sound format table ≡ true → fullSize store ≡ true
+    → ((calls : List Call) (givens : List Given) → Chained format table store calls givens
+    → Isolated (stationOf format table) store calls (ended format table store givens))
+    × ((calls others : List Call) (givens otherGivens : List Given)
+    → Chained format table store calls givens → Chained format table store others otherGivens → SameFrames (stationOf format table) calls others
+    → Agree (stationOf format table) calls others (ended format table store givens) (ended format table store otherGivens))
