@@ -134,6 +134,7 @@ fn hear(slots: [Slot; 16], store: &mut [u8], bus: u8, head: Head, image: &[u8]) 
     if lowest < 16 {
         return step_at(Progress::Idle, lowest, bus, head, image, store);
     }
+    // No slot is left; the first becomes what it was.
     let first = slots[0];
     Turn {
         at: 0,

@@ -46,8 +46,7 @@ pub struct Received {
     pub answer: Answer,
 }
 
-// One receiving turn over the bare slots: the slot concerned, what it becomes, and the answer. Where
-// none is concerned, at is 16 and slot is any.
+// One receiving turn over the bare slots: a slot, what it becomes, and the answer.
 pub struct Turn {
     pub at: usize,
     pub slot: Slot,
@@ -161,7 +160,7 @@ fn unchanged(slot: Slot, answer: Answer) -> Turn
 }
 
 // Receives an image on a bus, over the bare slots and the lent store: the work of every front, which
-// has only to store the slot named, if one is.
+// has only to store the slot named, the one concerned. Where none is, at is 16 and slot is any.
 pub fn take_turn(format: Format, slots: [Slot; 16], store: &mut [u8], bus: u8, image: &[u8]) -> Turn
     ensures { λ r. ⌜ (r .at ≡ concerned (stationOf format slots) (now (store .entry)) bus (now (image .entry))) × (afterTurn format slots r (now (store .exit)) ≡ receive (stationOf format slots) (now (store .entry)) bus (now (image .entry))) ⌝ }
 {
