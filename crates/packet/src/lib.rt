@@ -9,6 +9,7 @@ ghost use mathlib.Core.Bool.{true};
 ghost use mathlib.Core.List.{_++_};
 ghost use Prim.Native.Nat.{_+_, _%_, _≤_, _<_};
 ghost use lib.ListN.{length, take};
+ghost use Rattle.copying.specs.Copy.{copied};
 ghost use Rattle.format.specs.Formats.{numberRange, formatOf, inRange};
 ghost use Rattle.format.specs.Refusals.{meaning};
 ghost use Rattle.frame.specs.Image.{header};
@@ -80,12 +81,33 @@ fn bytes_at(z: usize, packet: &[u8], k: usize) -> &[u8]
     &packet[from..to]
 }
 
+// Writes the first m of head over the output from its start. The lengths that a header has are told
+// apart, so that the compiler moves a few bytes, where it would call memcpy for any length.
+fn put_head(head: &[u8], m: usize, output: &mut [u8])
+    requires { ⌜ m ≤ length (now head) ⌝ }
+    ensures { λ _. ⌜ now (output .exit) ≡ copied (now (output .entry)) 0 (take m (now (head .entry))) ⌝ }
+{
+    if m == 5 {
+        copying::copy_in(output, 0, &head[..5]);
+        return;
+    }
+    if m == 3 {
+        copying::copy_in(output, 0, &head[..3]);
+        return;
+    }
+    if m == 2 {
+        copying::copy_in(output, 0, &head[..2]);
+        return;
+    }
+    copying::copy_in(output, 0, &head[..m]);
+}
+
 // Writes the first m of head and then bytes over the output from its start.
 fn put(head: &[u8], m: usize, bytes: &[u8], output: &mut [u8])
     requires { ⌜ (m ≤ length (now head)) × (m + length (now bytes) ≤ length (now output)) ⌝ }
     ensures { λ _. ⌜ now (output .exit) ≡ over (take m (now (head .entry)) ++ now (bytes .entry)) (now (output .entry)) ⌝ }
 {
-    copying::copy_in(output, 0, &head[..m]);
+    put_head(head, m, output);
     copying::copy_in(output, m, bytes);
 }
 

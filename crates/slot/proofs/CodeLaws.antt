@@ -15,7 +15,7 @@ use Rattle.format.specs.Formats.{inRange}
 use Rattle.format.proofs.Tests.{each, from-each}
 use Rattle.format.specs.declared.Refusal.the-variants.{State}
 use Rattle.format.specs.Refusals.{value, refused, number}
-use Rattle.format.proofs.Checks.{stop, pass, none-left}
+use Rattle.format.proofs.Checks.{stop, pass, none-left, passed}
 use Rattle.slot.specs.declared.Key.{Key}
 use Rattle.slot.specs.declared.Slot.{Slot}
 use Rattle.slot.specs.declared.Occupancy.{Occupancy}
@@ -208,6 +208,15 @@ module _ (format : Format) (slots : List Slot) (sixteen : length slots ≡ 16) w
   unfolding sound all
   sound-codes codes e q = rw (eq-eqb (length slots) 16 sixteen, e, q) (differ-codes format slots 0 e)
 
+-- the search for a key among the codes finds what the search among the slots finds: no key out of range is open in sound slots
+pub find-key : (format : Format) (slots : List Slot) (key : Key) (codes : List ℕ) → slotsSound format slots ≡ true → codes ≡ codesFrom slots 0
+    → cond (keyInRange format key) (place (is (keyCode key)) codes) (length codes) ≡ place (hasKey key) slots
+find-key format slots key codes s q = go (keyInRange format key) refl
+  where
+    go : (b : Bool) → keyInRange format key ≡ b → cond b (place (is (keyCode key)) codes) (length codes) ≡ place (hasKey key) slots
+    go true r = ap (place (is (keyCode key))) q ∙ place-codes format key slots 0 r s
+    go false r = ap length q ∙ codes-length slots 0 ∙ sym (out-of-range format key slots r s)
+
 -- what is sought, by what was found out
 module _ (format : Format) (slots : List Slot) (key : Key) where
   pub sought-unsound : sound format slots ≡ false → refused (number State) ≡ sought format slots key
@@ -216,10 +225,18 @@ module _ (format : Format) (slots : List Slot) (key : Key) where
   sought-at : (i : ℕ) → sound format slots ≡ true → i ≡ place (hasKey key) slots → value i ≡ sought format slots key
   sought-at i e q = ap value q ∙ pass State _ _ e (none-left _)
 
-  pub sought-nowhere : length slots ≡ 16 → slotsSound format slots ≡ true → sound format slots ≡ true → keyInRange format key ≡ false
-      → value 16 ≡ sought format slots key
-  sought-nowhere n s e r = sought-at 16 e (sym (out-of-range format key slots r s ∙ n))
+  -- by what the search among the codes found
+  pub sought-key : (codes : List ℕ) (i : ℕ) → slotsSound format slots ≡ true → codes ≡ codesFrom slots 0 → sound format slots ≡ true
+      → i ≡ cond (keyInRange format key) (place (is (keyCode key)) codes) (length codes) → value i ≡ sought format slots key
+  sought-key codes i s q e w = sought-at i e (w ∙ find-key format slots key codes s q)
 
-  pub sought-found : (codes : List ℕ) (i : ℕ) → slotsSound format slots ≡ true → codes ≡ codesFrom slots 0 → sound format slots ≡ true
-      → keyInRange format key ≡ true → i ≡ place (is (keyCode key)) codes → value i ≡ sought format slots key
-  sought-found codes i s q e r w = sought-at i e (w ∙ ap (place (is (keyCode key))) q ∙ place-codes format key slots 0 r s)
+  -- and back: what a search says of soundness
+  pub refused-unsound : (n : ℕ) → refused n ≡ sought format slots key → false ≡ sound format slots
+  refused-unsound n e = go (sound format slots) refl
+    where
+      go : (b : Bool) → sound format slots ≡ b → false ≡ b
+      go true s = let q = sought-at (place (hasKey key) slots) s refl in let z : _≡_ {A = ℕ} 0 1 = cc in absurd (omega arith)
+      go false s = refl
+
+  pub value-sound : (i : ℕ) → value i ≡ sought format slots key → true ≡ sound format slots
+  value-sound i e = sym (passed _ _ _ (sym e) .0 .0)

@@ -1,6 +1,7 @@
--- FOR PRIVATE CONTRACTS ONLY: no public contract cites these definitions, and they need not be believed.
--- The number that the code compares in place of a key: below 1,073,741,824 for a key in range, and another for each such key
--- (16,384 tells the standard keys from the extended). A closed slot has a number of its own.
+-- The document has no such number: the code compares it in place of a key, and a key is written as it into the bytes of a station (crate
+-- `station_bytes`, States). It is below 1,073,741,824 for a key in range, and another for each such key (16,384 tells the standard
+-- keys from the extended). The public contracts of `clash`, `find_key` and `key_number` cite `clashing`, `is` and `keyCode`.
+-- `slotCode` and `codesFrom` are for private contracts only: a closed slot has a number of its own.
 use Prim.Native.Nat.{ℕ, _+_, _*_}
 use mathlib.Core.Bool.{Bool, false, _||_}
 use mathlib.Core.List.{List, [], _∷_}

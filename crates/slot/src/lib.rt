@@ -8,12 +8,13 @@ use format::Standard;
 use stream::Progress;
 ghost use Prim.Native.Nat.{_<_, _≤_};
 ghost use lib.ListN.{length, drop};
-ghost use mathlib.Core.Bool.{true};
+ghost use mathlib.Core.Bool.{true, cond};
 ghost use mathlib.Core.Path.{_≡_};
+ghost use Rattle.format.specs.Formats.{formatOf};
 ghost use Rattle.format.specs.Refusals.{meaning};
 ghost use Rattle.slot.specs.Codes.{keyCode, slotCode, codesFrom, is, clashing};
 ghost use Rattle.slot.specs.Slots.{sameFields, isClosed, closed, openWith, hasKey, place};
-ghost use Rattle.slot.specs.Sound.{sameFormat, keyInRange, fits, slotSound, slotsSound, any, sound, sought};
+ghost use Rattle.slot.specs.Sound.{keyInRange, fits, slotSound, slotsSound, any, sound, sought};
 
 // What a stream is known by: the bus (0 is A, 1 is B) and all identifier fields.
 pub struct Key {
@@ -35,27 +36,42 @@ pub struct Slot {
     pub occupancy: Occupancy,
 }
 
-fn same_format(a: Format, b: Format) -> bool
-    ensures { λ r. ⌜ r ≡ sameFormat a b ⌝ }
-{
-    match a {
-        Format::Extended => match b {
-            Format::Extended => true,
-            Format::Standard => false,
-        },
-        Format::Standard => match b {
-            Format::Extended => false,
-            Format::Standard => true,
-        },
-    }
-}
-
 // Whether the bus is A or B, and the fields are of the format and each in its range.
 pub fn key_in_range(format: Format, key: Key) -> bool
     ensures { λ r. ⌜ r ≡ keyInRange format key ⌝ }
 {
     let fields = key.fields;
-    (key.bus <= 1) & same_format(format, fields.format()) & fields.in_range()
+    let bus = key.bus <= 1;
+    match format {
+        Format::Extended => match fields {
+            Fields::Extended {
+                priority: _,
+                source: _,
+                group: _,
+                destination: _,
+                function: _,
+            } => bus & fields.in_range(),
+            Fields::Standard {
+                priority: _,
+                address: _,
+                side: _,
+            } => false,
+        },
+        Format::Standard => match fields {
+            Fields::Extended {
+                priority: _,
+                source: _,
+                group: _,
+                destination: _,
+                function: _,
+            } => false,
+            Fields::Standard {
+                priority: _,
+                address: _,
+                side: _,
+            } => bus & fields.in_range(),
+        },
+    }
 }
 
 // Whether so many bytes can be held. A standard piece of number 255 is an end, so that no more
@@ -96,7 +112,11 @@ fn slot_sound(format: Format, occupancy: Occupancy) -> bool
         Occupancy::Open(stream) => {
             let key = stream.key;
             let progress = stream.progress;
-            key_in_range(format, key) & fits(format, progress)
+            if key_in_range(format, key) {
+                fits(format, progress)
+            } else {
+                false
+            }
         }
     }
 }
@@ -175,26 +195,24 @@ fn scan(format: Format, slots: [Slot; 16], codes: &mut [u32; 16]) -> bool
 }
 
 // Whether the code is among those from a place on. No branch in the row.
-fn repeated(codes: &[u32; 16], from: usize, code: u32) -> bool
-    requires { ⌜ (from ≤ 16) × (length (now codes) ≡ 16) ⌝ }
+fn repeated(codes: &[u32], from: usize, code: u32) -> bool
     ensures { λ r. ⌜ r ≡ any (is code) (drop from (now (codes .entry))) ⌝ }
 {
     let mut hit = false;
     let mut j = from;
-    while j < 16 {
+    while j < codes.len() {
         hit = hit | (codes[j] == code);
         j += 1;
     }
     hit
 }
 
-// Whether two codes are equal.
-fn clash(codes: &[u32; 16]) -> bool
-    requires { ⌜ length (now codes) ≡ 16 ⌝ }
+// Whether two of the codes are equal.
+pub fn clash(codes: &[u32]) -> bool
     ensures { λ r. ⌜ r ≡ clashing (now (codes .entry)) ⌝ }
 {
     let mut i: usize = 0;
-    while i < 16 {
+    while i < codes.len() {
         if repeated(codes, i + 1, codes[i]) {
             return true;
         }
@@ -203,18 +221,29 @@ fn clash(codes: &[u32; 16]) -> bool
     false
 }
 
-fn find_code(codes: &[u32; 16], code: u32) -> usize
-    requires { ⌜ length (now codes) ≡ 16 ⌝ }
+// The first place of the code, and how many there are if there is none.
+fn find_code(codes: &[u32], code: u32) -> usize
     ensures { λ r. ⌜ r ≡ place (is code) (now (codes .entry)) ⌝ }
 {
     let mut i: usize = 0;
-    while i < 16 {
+    while i < codes.len() {
         if codes[i] == code {
             return i;
         }
         i += 1;
     }
-    16
+    i
+}
+
+// Where a key is among the codes of sound slots of the format; their number if nowhere. In sound slots
+// no key out of range is open.
+pub fn find_key(format: Format, codes: &[u32], key: Key) -> usize
+    ensures { λ r. ⌜ r ≡ cond (keyInRange format key) (place (is (keyCode key)) (now (codes .entry))) (length (now (codes .entry))) ⌝ }
+{
+    if !key_in_range(format, key) {
+        return codes.len();
+    }
+    find_code(codes, key_code(key))
 }
 
 fn is_closed(occupancy: Occupancy) -> bool
@@ -323,18 +352,6 @@ pub fn find(slots: [Slot; 16], key: Key) -> usize
     16
 }
 
-// Whether each slot is sound and open keys differ.
-pub fn sound(format: Format, slots: [Slot; 16]) -> bool
-    ensures { λ r. ⌜ r ≡ sound format slots ⌝ }
-{
-    let mut codes = [0u32; 16];
-    if scan(format, slots, &mut codes) {
-        !clash(&codes)
-    } else {
-        false
-    }
-}
-
 // Where the key is open, 16 if nowhere, or STATE. Soundness is found out on the way, from the same
 // codes.
 pub fn seek(format: Format, slots: [Slot; 16], key: Key) -> Outcome
@@ -347,9 +364,36 @@ pub fn seek(format: Format, slots: [Slot; 16], key: Key) -> Outcome
     if clash(&codes) {
         return Outcome::Refused(Refusal::State);
     }
-    // In sound slots no key out of range is open.
-    if !key_in_range(format, key) {
-        return Outcome::Value(16);
+    Outcome::Value(find_key(format, &codes, key))
+}
+
+// Whether each slot is sound and open keys differ. Told by seek, for any key: so scan is called in one
+// place, and the compiler keeps no copy of the slots for it.
+pub fn sound(format: Format, slots: [Slot; 16]) -> bool
+    ensures { λ r. ⌜ r ≡ sound format slots ⌝ }
+{
+    let fields = Fields::Standard {
+        priority: 0,
+        address: 0,
+        side: 0,
+    };
+    let key = Key {
+        bus: 0,
+        fields: fields,
+    };
+    match seek(format, slots, key) {
+        Outcome::Refused(_) => false,
+        Outcome::Value(_) => true,
     }
-    Outcome::Value(find_code(&codes, key_code(key)))
+}
+
+// The number of a key in range; 0 for any other.
+pub fn key_number(key: Key) -> u32
+    ensures { λ r. ⌜ r ≡ cond (keyInRange (formatOf (key .fields)) key) (keyCode key) 0 ⌝ }
+{
+    let fields = key.fields;
+    if !key_in_range(fields.format(), key) {
+        return 0;
+    }
+    key_code(key)
 }

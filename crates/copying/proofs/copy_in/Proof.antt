@@ -1,6 +1,6 @@
 -- `copying::copy_in` meets its contract: the first j bytes are pasted after j rounds, and the target keeps its length (Copying).
 use Prim.Native.Nat.{_+_, _-_, _≤_, _<_}
-use mathlib.Core.Path.{_≡_, refl, sym}
+use mathlib.Core.Path.{_≡_, refl, sym, _∙_}
 use native.Mathlib.Nat.{le-antisymm}
 use native.Mathlib.Numerals.{add-one}
 use native.Mathlib.Omega.{arith}
@@ -20,19 +20,33 @@ abbrev μ-loop : tie.MeasureT-loop
 
 returns : tie.Need-returns Inv-loop μ-loop
 returns c =
-    let a = c .before .args in
+    let a = c .before .before .before .args in
     let h : length (a .target .now) < a .at + length (a .bytes .now) = omega arith in
     (sym (past (a .target .now) (a .at) (a .bytes .now) h), sym (none-copied (a .target .now) (a .at) (a .bytes .now) h))
 
 returns-2 : tie.Need-returns-2 Inv-loop μ-loop
 returns-2 c =
-    let a = c .before .before .args in
+    let a = c .before .before .before .before .args in
     let h : length (a .target .now) < a .at + length (a .bytes .now) = omega arith in
     (sym (past (a .target .now) (a .at) (a .bytes .now) h), sym (none-copied (a .target .now) (a .at) (a .bytes .now) h))
 
+copy-eight-requires : tie.Need-copy-eight-requires Inv-loop μ-loop
+copy-eight-requires c κs = search needs
+
+same-length : tie.Need-same-length Inv-loop μ-loop
+same-length c = search needs
+
+returns-3 : tie.Need-returns-3 Inv-loop μ-loop
+returns-3 c =
+    let e = c .before .before in
+    let start = e .before .before .before .before .before .before .before in
+    let a = start .args in
+    let h : a .at + length (a .bytes .now) ≤ length (a .target .now) = omega arith in
+    (sym (fits (a .target .now) (a .at) (a .bytes .now) h), e .copy-eight .ensures ∙ sym (all-copied (a .target .now) (a .at) (a .bytes .now) h))
+
 loop-holds : tie.Need-loop-holds Inv-loop μ-loop
 loop-holds c =
-    let a = c .before .before .args in
+    let a = c .before .before .before .before .before .args in
     (search needs, paste-zero (a .target .now) (a .at) (a .bytes .now), refl)
 
 shared-slice-read-target : tie.Need-shared-slice-read-target Inv-loop μ-loop
@@ -53,20 +67,20 @@ loop-less c = search needs
 loop-again : tie.Need-loop-again Inv-loop μ-loop
 loop-again c =
     let l = c .before .before in
-    let a = l .before .before .before .args in
+    let a = l .before .before .before .before .before .before .args in
     let room : a .at + l .loop .j < length (a .target .now) = omega arith in (
       search needs,
       rw (l .loop .inv .1, add-one) (paste-suc (a .target .now) (a .at) (a .bytes .now) (l .loop .j) 0 room (search needs)),
       rw (length-set, l .loop .inv .2),
     )
 
-same-length : tie.Need-same-length Inv-loop μ-loop
-same-length c = search needs
+same-length-2 : tie.Need-same-length-2 Inv-loop μ-loop
+same-length-2 c = search needs
 
-returns-3 : tie.Need-returns-3 Inv-loop μ-loop
-returns-3 c =
+returns-4 : tie.Need-returns-4 Inv-loop μ-loop
+returns-4 c =
     let l = c .before in
-    let a = l .before .before .before .args in
+    let a = l .before .before .before .before .before .before .args in
     let e : l .loop .j ≡ length (a .bytes .now) = le-antisymm (l .loop .inv .0) (c .loop-test .left) in
     let h : a .at + length (a .bytes .now) ≤ length (a .target .now) = omega arith in (
       sym (fits (a .target .now) (a .at) (a .bytes .now) h),
@@ -81,6 +95,9 @@ copy-in-spec =
     μ-loop
     returns
     returns-2
+    copy-eight-requires
+    same-length
+    returns-3
     loop-holds
     shared-slice-read-target
     add-target
@@ -88,5 +105,5 @@ copy-in-spec =
     add-j
     loop-less
     loop-again
-    same-length
-    returns-3)
+    same-length-2
+    returns-4)

@@ -1,5 +1,6 @@
 -- `slot::slot_sound` meets its contract: by the arms.
-use Rattle.format.specs.Tests.{all}
+use mathlib.Core.Path.{_∙_, sym}
+use Rattle.format.specs.Tests.{all, allAfter}
 use Rattle.slot.specs.Sound.{slotSound}
 use borrow.Author.Needs.{needs}
 use Rattle.slot.proofs.slot_sound.Statement.{statement}
@@ -22,10 +23,25 @@ unfolding slotSound
 returns c = search needs
 
 returns-2 : tie.Need-returns-2
-unfolding slotSound all
-returns-2 c = simp (c .before .before .before .before .occupancy .given .1, c .before .key-in-range .ensures, c .fits2 .ensures)
+unfolding slotSound all allAfter
+returns-2 c =
+    let k = c .before .before in
+    simp (k .before .before .before .occupancy .given .1, sym (k .key-in-range .ensures) ∙ c .before .if1 .taken, c .fits2 .ensures)
+
+returns-3 : tie.Need-returns-3
+unfolding slotSound all allAfter
+returns-3 c =
+    let k = c .before in
+    simp (k .before .before .before .occupancy .given .1, sym (k .key-in-range .ensures) ∙ c .if1 .left)
 
 pub slot-sound-spec : {M : Type 1} → statement M
 slot-sound-spec =
     tie.close
-    (tie.spec enum-told enum-known-occupancy key-in-range-requires fits-requires returns returns-2)
+    (tie.spec
+    enum-told
+    enum-known-occupancy
+    key-in-range-requires
+    fits-requires
+    returns
+    returns-2
+    returns-3)

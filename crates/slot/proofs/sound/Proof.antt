@@ -1,32 +1,29 @@
--- `slot::sound` meets its contract: of sound slots the keys differ where the codes do.
-use mathlib.Core.Path.{_≡_, _∙_, sym, ap}
-use mathlib.Core.Bool.{not}
-use Rattle.slot.proofs.CodeLaws.{unsound, sound-codes}
-use lib.ListN.{length}
+-- `slot::sound` meets its contract: whatever the key, seek refuses exactly where the slots are not sound.
+use mathlib.Core.Path.{_∙_, sym, ap}
+use Rattle.format.specs.Refusals.{meaning}
+use Rattle.slot.proofs.CodeLaws.{refused-unsound, value-sound}
 use borrow.Author.Needs.{needs}
 use Rattle.slot.proofs.sound.Statement.{statement}
 use Rattle.slot.proofs.sound.Tie as tie
 
-sixteen : (c : tie.Start) → length (c .args .slots) ≡ 16
-sixteen c = c .good .1 .0 .1 .0 .1
+seek-requires : tie.Need-seek-requires
+seek-requires c κs = search needs
 
-scan-requires : tie.Need-scan-requires
-scan-requires c κs = search needs
+enum-told : tie.Need-enum-told
+enum-told c = search needs
 
-clash-requires : tie.Need-clash-requires
-clash-requires c κs = search needs
+enum-told-2 : tie.Need-enum-told-2
+enum-told-2 c = search needs
 
 returns : tie.Need-returns
 returns c =
-    let e = c .before .before .before .scan .ensures in
-    let t = c .before .before .if1 .taken in
-    let a = c .before .before .before .before .before in
-    ap not (c .clash .ensures) ∙ sym (sound-codes (a .args .format) (a .args .slots) (sixteen a) _ (sym (e .0) ∙ t) (e .1 .1 t))
+    let a = c .before .before .before in
+    refused-unsound (a .args .format) (a .args .slots) _ _ (sym (ap meaning (c .enum-told .given .1)) ∙ c .before .before .seek .ensures)
 
 returns-2 : tie.Need-returns-2
 returns-2 c =
     let a = c .before .before .before in
-    sym (unsound (a .args .format) (a .args .slots) (sixteen a) (sym (c .before .scan .ensures .0) ∙ c .if1 .left))
+    value-sound (a .args .format) (a .args .slots) _ _ (sym (ap meaning (c .enum-told2 .given .1)) ∙ c .before .before .seek .ensures)
 
 pub sound-spec : {M : Type 1} → statement M
-sound-spec = tie.close (tie.spec scan-requires clash-requires returns returns-2)
+sound-spec = tie.close (tie.spec seek-requires enum-told enum-told-2 returns returns-2)
