@@ -1,0 +1,23 @@
+-- `master_bytes::activity_bytes` meets its contract: no exchange, or one.
+use borrow.Author.Needs.{needs}
+use Rattle.master_bytes.proofs.activity_bytes.Statement.{statement}
+use Rattle.master_bytes.proofs.activity_bytes.Tie as tie
+
+enum-told : tie.Need-enum-told
+enum-told c = search needs
+
+enum-known-activity : tie.Need-enum-known-activity
+enum-known-activity c = search needs
+
+kind-number-requires : tie.Need-kind-number-requires
+kind-number-requires c κs = search needs
+
+returns : tie.Need-returns
+returns c = search needs
+
+returns-2 : tie.Need-returns-2
+returns-2 c = rw (c .before .before .activity .given .1, c .kind-number .ensures)
+
+pub activity-bytes-spec : {M : Type 1} → statement M
+activity-bytes-spec =
+    tie.close (tie.spec enum-told enum-known-activity kind-number-requires returns returns-2)

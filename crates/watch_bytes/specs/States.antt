@@ -1,0 +1,69 @@
+-- Document 01, "Filters, exchanges and watch", last paragraph: "The watch keeps for each bus the last heard time, a free-running
+-- 32-bit millisecond count. A new watch sets both to the time given; hearing a bus sets that one's. At a check [..] that bus is to be
+-- reset and its last time becomes now." Here the watch is in 8 bytes that a caller lends: the last heard time of bus A, then that of
+-- bus B, each four bytes, low byte first (Words). Any other number of bytes is no watch's: it is refused as 21 (STATE), before all
+-- else, and the bytes stay.
+use Prim.Native.Nat.{ℕ}
+use mathlib.Core.Bool.{Bool, true, false, cond}
+use mathlib.Core.List.{List, _++_}
+use lib.Dec.{eqb}
+use lib.ListN.{length}
+use Rattle.format.specs.declared.Refusal.the-variants.{State}
+use Rattle.format.specs.declared.Outcome.{Outcome}
+use Rattle.format.specs.Refusals.{Result, value, refused, number, meaning}
+use Rattle.words.specs.Words.{wordBytes, wordAt}
+use Rattle.watch.specs.declared.Watch.{Watch}
+use Rattle.watch.specs.declared.Checked.{Checked}
+use Rattle.watch.specs.Watching as watching
+
+-- the bytes of a watch
+unfoldable pub stateBytes : Watch → List ℕ
+stateBytes watch = wordBytes (watch .a) ++ wordBytes (watch .b)
+
+-- the watch in its bytes
+unfoldable pub watchIn : List ℕ → Watch
+watchIn state = record { a = wordAt state 0; b = wordAt state 4 }
+
+-- whether bytes are a watch's
+unfoldable pub isState : List ℕ → Bool
+isState state = eqb (length state) 8
+
+-- the answer, and the lent bytes afterwards
+pub record Handed : Type 0 where
+  pub answer : Result ℕ
+  pub state : List ℕ
+
+-- what a call on the watch gives, the next watch as bytes
+abbrev pub handed : watching.Handed → Handed
+handed given = record { answer = given .answer; state = stateBytes (given .watch) }
+
+-- bytes that are no watch's are refused and stay
+abbrev pub notState : List ℕ → Handed
+notState state = record { answer = refused (number State); state = state }
+
+abbrev pub onState : List ℕ → Handed → Handed
+onState state given = cond (isState state) given (notState state)
+
+-- any 8 bytes become a new watch's; the answer is 0
+unfoldable pub renew : List ℕ → (time : ℕ) → Handed
+renew state time = onState state (record { answer = value 0; state = stateBytes (watching.newWatch time) })
+
+unfoldable pub hearing : List ℕ → (bus time : ℕ) → Handed
+hearing state bus time = onState state (handed (watching.hearing (watchIn state) bus time))
+
+-- which buses are to be reset: 0 none, 1 A, 2 B, 3 both
+abbrev pub resets : (a b : Bool) → ℕ
+resets false false = 0
+resets true false = 1
+resets false true = 2
+resets true true = 3
+
+abbrev pub checked : Checked → Handed
+checked given = record { answer = value (resets (given .a) (given .b)); state = stateBytes (given .watch) }
+
+unfoldable pub checking : List ℕ → (time : ℕ) → Handed
+checking state time = onState state (checked (watching.checking (watchIn state) time))
+
+-- what the code's answer says, and the bytes afterwards
+abbrev pub after : Outcome → List ℕ → Handed
+after r state = record { answer = meaning r; state = state }

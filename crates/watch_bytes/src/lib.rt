@@ -1,0 +1,100 @@
+// A watch whose state is in lent bytes: the last heard time of bus A and of bus B, each a number of 32 bits,
+// low byte first.
+use copying::copy_in;
+use format::Outcome;
+use format::Refusal;
+use watch::Watch;
+use words::word_bytes;
+use words::word_of;
+ghost use mathlib.Core.Path.{_≡_};
+ghost use Prim.Native.Nat.{_+_, _≤_};
+ghost use lib.ListN.{length};
+ghost use Rattle.words.specs.Words.{wordAt};
+ghost use Rattle.watch_bytes.specs.States as states;
+
+// The bytes of a state.
+pub struct State;
+
+impl State {
+    pub const SIZE: usize = 8;
+}
+
+// The number in the four bytes from place at on.
+fn word_at(state: &[u8], at: usize) -> u32
+    requires { ⌜ at + 4 ≤ length (now state) ⌝ }
+    ensures { λ r. ⌜ r ≡ wordAt (now (state .entry)) at ⌝ }
+{
+    word_of(state[at], state[at + 1], state[at + 2], state[at + 3])
+}
+
+fn put(state: &mut [u8], watch: Watch)
+    requires { ⌜ length (now state) ≡ 8 ⌝ }
+    ensures { λ _. ⌜ now (state .exit) ≡ states.stateBytes watch ⌝ }
+{
+    let a = word_bytes(watch.a);
+    let b = word_bytes(watch.b);
+    copy_in(state, 0, &a);
+    copy_in(state, 4, &b);
+}
+
+fn load(state: &[u8]) -> Watch
+    requires { ⌜ length (now state) ≡ 8 ⌝ }
+    ensures { λ r. ⌜ r ≡ states.watchIn (now (state .entry)) ⌝ }
+{
+    Watch {
+        a: word_at(state, 0),
+        b: word_at(state, 4),
+    }
+}
+
+// Makes the bytes those of a watch that begins at the time. Answers 0, or refuses: STATE.
+pub fn new(state: &mut [u8], time: u32) -> Outcome
+    ensures { λ r. ⌜ states.after r (now (state .exit)) ≡ states.renew (now (state .entry)) time ⌝ }
+{
+    if state.len() != State::SIZE {
+        return Outcome::Refused(Refusal::State);
+    }
+    put(state, Watch::new(time));
+    Outcome::Value(0)
+}
+
+// A bus is heard at the time: 0 is A, 1 is B. Answers the bus, or refuses: STATE, FIELD.
+pub fn heard(state: &mut [u8], bus: u8, time: u32) -> Outcome
+    ensures { λ r. ⌜ states.after r (now (state .exit)) ≡ states.hearing (now (state .entry)) bus time ⌝ }
+{
+    if state.len() != State::SIZE {
+        return Outcome::Refused(Refusal::State);
+    }
+    let heard = load(state).heard(bus, time);
+    let watch = heard.watch;
+    put(state, watch);
+    heard.answer
+}
+
+fn resets(a: bool, b: bool) -> usize
+    ensures { λ r. ⌜ r ≡ states.resets a b ⌝ }
+{
+    if a {
+        if b {
+            return 3;
+        }
+        return 1;
+    }
+    if b {
+        return 2;
+    }
+    0
+}
+
+// Which buses are to be reset at the time: 0 none, 1 A, 2 B, 3 both. Refuses: STATE.
+pub fn check(state: &mut [u8], time: u32) -> Outcome
+    ensures { λ r. ⌜ states.after r (now (state .exit)) ≡ states.checking (now (state .entry)) time ⌝ }
+{
+    if state.len() != State::SIZE {
+        return Outcome::Refused(Refusal::State);
+    }
+    let checked = load(state).check(time);
+    let watch = checked.watch;
+    put(state, watch);
+    Outcome::Value(resets(checked.a, checked.b))
+}
