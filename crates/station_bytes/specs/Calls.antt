@@ -1,0 +1,68 @@
+-- The calls on a station whose state is in lent bytes. Each is the station's own, on the station that the bytes are: its answer, the bytes
+-- of the station that it hands back, and the store. Document 01, "Refusal numbers", 21: bytes that are no station's are refused with
+-- STATE, before all else, and nothing changes.
+use Prim.Native.Nat.{ℕ}
+use mathlib.Core.Bool.{cond}
+use mathlib.Core.List.{List, [], _∷_}
+use lib.Dec.{eqb}
+use lib.ListN.{length}
+use Rattle.format.specs.declared.Format.{Format}
+use Rattle.format.specs.declared.Refusal.the-variants.{State}
+use Rattle.format.specs.declared.Outcome.{Outcome}
+use Rattle.format.specs.Refusals as outcomes
+use Rattle.format.specs.Refusals.{Result, value, refused, number}
+use Rattle.stream.specs.declared.Answer.{Answer}
+use Rattle.stream.specs.Answers.{Reply, meaning}
+use Rattle.slot.specs.declared.Key.{Key}
+use Rattle.station.specs.Stations.{newStation}
+use Rattle.station.specs.Receive as receiving
+use Rattle.station.specs.Open as handing
+use Rattle.station.specs.Read as reading
+use Rattle.station_bytes.specs.States.{stateBytes, stationIn, isState}
+
+-- the answer, and the bytes of state and store afterwards
+pub record Received : Type 0 where
+  pub answer : Result Reply
+  pub state : List ℕ
+  pub store : List ℕ
+
+abbrev pub received : receiving.After → Received
+received after = record { answer = after .answer; state = stateBytes (after .station); store = after .store }
+
+unfoldable pub receiveIn : (state store : List ℕ) (bus : ℕ) → List ℕ → Received
+receiveIn state store bus image =
+    cond (isState state) (received (receiving.receive (stationIn state) store bus image))
+    (record { answer = refused (number State); state = state; store = store })
+
+-- the answer, and the bytes of the state afterwards
+pub record Handed : Type 0 where
+  pub answer : Result ℕ
+  pub state : List ℕ
+
+abbrev pub handed : handing.Handed → Handed
+handed given = record { answer = given .answer; state = stateBytes (given .station) }
+
+abbrev pub notState : List ℕ → Handed
+notState state = record { answer = refused (number State); state = state }
+
+-- any 129 bytes become a new station's; the answer is 0
+unfoldable pub renewed : List ℕ → Format → Handed
+renewed state format =
+    cond (eqb (length state) 129) (record { answer = value 0; state = stateBytes (newStation format) }) (notState state)
+
+unfoldable pub openIn : List ℕ → Key → Handed
+openIn state key = cond (isState state) (handed (handing.opening (stationIn state) key)) (notState state)
+
+unfoldable pub closeIn : List ℕ → ℕ → Handed
+closeIn state i = cond (isState state) (handed (handing.closing (stationIn state) i)) (notState state)
+
+-- the packet of slot i; a call that reads changes nothing
+unfoldable pub readIn : (state store : List ℕ) → ℕ → Result (List ℕ)
+readIn state store i = cond (isState state) (reading.reading (stationIn state) store i) (refused (number State))
+
+-- what the code's answers, and the bytes afterwards, say
+abbrev pub afterReceiving : Answer → (state store : List ℕ) → Received
+afterReceiving answer state store = record { answer = meaning answer; state = state; store = store }
+
+abbrev pub after : Outcome → List ℕ → Handed
+after outcome state = record { answer = outcomes.meaning outcome; state = state }

@@ -1,0 +1,132 @@
+-- What is promised of a station in lent bytes. `ReadBack`, `WrittenBack` and `NotWritten` are of the bytes, `AsFirst` and `StaySound` of one
+-- call, `AsRun`, `Demand3OnBytes` and `RoundTripOnBytes` of calls one after the other. Proofs: proofs/ReadBack.antt (the bytes) and
+-- proofs/Runs.antt (the calls).
+use Prim.Native.Nat.{ℕ, _≤_}
+use mathlib.Core.Path.{_≡_}
+use mathlib.Core.Logic.{_≢_}
+use mathlib.Core.Bool.{Bool, true}
+use mathlib.Core.List.{List, [], _∷_}
+use lib.ListN.{length}
+use Rattle.format.specs.declared.Format.{Format}
+use Rattle.format.specs.declared.Refusal.the-variants.{State}
+use Rattle.format.specs.Refusals.{value, refused, number}
+use Rattle.format.specs.Formats.{packetLimit}
+use Rattle.frame.specs.Claims.{Bytes}
+use Rattle.packet.specs.Split.{pieces}
+use Rattle.stream.specs.Step.{collecting}
+use Rattle.slot.specs.declared.Key.{Key}
+use Rattle.slot.specs.declared.Stream.{Stream}
+use Rattle.station.specs.declared.Station.{Station}
+use Rattle.station.specs.Stations.{soundStation, fullSize}
+use Rattle.station.specs.Receive.{receive}
+use Rattle.station.specs.Open.{opening, closing}
+use Rattle.station.specs.Read.{reading}
+use Rattle.station.specs.Run.{Call, Ran, run, framesOf, answersOf}
+use Rattle.station.specs.Demands.{IsStream, Isolated, SameFrames, Agree, fed, woven, answersTo}
+use Rattle.station_bytes.specs.States.{stateBytes, stationIn, isState}
+use Rattle.station_bytes.specs.Calls.{Received, received, receiveIn, handed, notState, renewed, openIn, closeIn, readIn}
+
+-- ---- the bytes
+
+-- the bytes of a sound station are a state's, and read back they are that station
+unfoldable pub ReadBack : Type 0
+ReadBack = (station : Station) → soundStation station ≡ true → (isState (stateBytes station) ≡ true) × (stationIn (stateBytes station) ≡ station)
+
+-- bytes that are a state's are those that the station read from them writes
+unfoldable pub WrittenBack : Type 0
+WrittenBack = (state : List ℕ) → Bytes state → isState state ≡ true → stateBytes (stationIn state) ≡ state
+
+-- every call refuses with 21 and leaves every byte
+pub record Refuses (state : List ℕ) : Type 0 where
+  pub receives : (store : List ℕ) (bus : ℕ) (image : List ℕ)
+      → receiveIn state store bus image ≡ record { answer = refused (number State); state = state; store = store }
+  pub opens : (key : Key) → openIn state key ≡ notState state
+  pub closes : (i : ℕ) → closeIn state i ≡ notState state
+  pub reads : (store : List ℕ) (i : ℕ) → readIn state store i ≡ refused (number State)
+
+-- so it is of bytes that no sound station writes
+unfoldable pub NotWritten : Type 0
+NotWritten =
+    (state : List ℕ) → Bytes state → ((station : Station) → soundStation station ≡ true → stateBytes station ≢ state) → Refuses state
+
+-- ---- one call
+
+-- on a station's bytes each call gives what the station's own gives
+pub record SameAs (station : Station) : Type 0 where
+  pub receives : (store : List ℕ) (bus : ℕ) (image : List ℕ)
+      → receiveIn (stateBytes station) store bus image ≡ received (receive station store bus image)
+  pub opens : (key : Key) → openIn (stateBytes station) key ≡ handed (opening station key)
+  pub closes : (i : ℕ) → closeIn (stateBytes station) i ≡ handed (closing station i)
+  pub reads : (store : List ℕ) (i : ℕ) → readIn (stateBytes station) store i ≡ reading station store i
+
+-- so it is for every sound station
+unfoldable pub AsFirst : Type 0
+AsFirst = (station : Station) → soundStation station ≡ true → SameAs station
+
+-- bytes of a sound station
+abbrev pub AreSound : List ℕ → Type 0
+AreSound state = (isState state ≡ true) × (soundStation (stationIn state) ≡ true)
+
+-- such bytes are such bytes again after each call; any 129 bytes are after `new`
+pub record StaySound : Type 0 where
+  pub receives : (station : Station) → soundStation station ≡ true → (store : List ℕ) (bus : ℕ) (image : List ℕ)
+      → AreSound (receiveIn (stateBytes station) store bus image .state)
+  pub opens : (station : Station) → soundStation station ≡ true → (key : Key) → AreSound (openIn (stateBytes station) key .state)
+  pub closes : (station : Station) → soundStation station ≡ true → (i : ℕ) → AreSound (closeIn (stateBytes station) i .state)
+  pub new : (state : List ℕ) → length state ≡ 129 → (format : Format) → AreSound (renewed state format .state)
+
+-- ---- calls one after the other
+
+-- each gets the state's and the store's bytes as the last left them, and what it gives meets the contract of `receive`
+unfoldable pub Chained : (state store : List ℕ) → List Call → List Received → Type 0
+Chained state store [] [] = Unit {0}
+Chained state store [] (given ∷ givens) = ⊥
+Chained state store (call ∷ calls) [] = ⊥
+Chained state store (call ∷ calls) (given ∷ givens) =
+    (given ≡ receiveIn state store (call .bus) (call .image)) × Chained (given .state) (given .store) calls givens
+
+-- the state's bytes in the end
+unfoldable pub lastOf : List ℕ → List Received → List ℕ
+lastOf state [] = state
+lastOf state (given ∷ givens) = lastOf (given .state) givens
+
+-- the answers given, and in the end the station read from the bytes, and the store
+unfoldable pub ended : (state store : List ℕ) → List Received → Ran
+ended state store [] = record { answers = []; station = stationIn state; store = store }
+ended state store (given ∷ givens) =
+    let rest : Ran = ended (given .state) (given .store) givens in
+    record { answers = given .answer ∷ rest .answers; station = rest .station; store = rest .store }
+
+-- on the bytes of a sound station they are the run of the station's own `receive`, and the bytes in the end are those of its station
+unfoldable pub AsRun : Type 0
+AsRun =
+    (station : Station) → soundStation station ≡ true → (calls : List Call) (store : List ℕ) (givens : List Received)
+    → Chained (stateBytes station) store calls givens
+    → (ended (stateBytes station) store givens ≡ run station store calls)
+    × (lastOf (stateBytes station) givens ≡ stateBytes (run station store calls .station))
+
+-- so demand 3 holds of them, for every sound station and full-size store
+unfoldable pub Demand3OnBytes : Type 0
+Demand3OnBytes =
+    (station : Station) (store : List ℕ) → soundStation station ≡ true → fullSize store ≡ true
+    → ((calls : List Call) (givens : List Received) → Chained (stateBytes station) store calls givens
+    → Isolated station store calls (ended (stateBytes station) store givens))
+    × ((calls others : List Call) (givens otherGivens : List Received)
+    → Chained (stateBytes station) store calls givens → Chained (stateBytes station) store others otherGivens → SameFrames station calls others
+    → Agree station calls others (ended (stateBytes station) store givens) (ended (stateBytes station) store otherGivens))
+
+-- and the last sentence of demand 2, as the station's RoundTripOn has it: a packet's pieces, with whatever else is received between
+-- them, end in that packet, which is read from the bytes in the end
+unfoldable pub RoundTripOnBytes : Type 0
+RoundTripOnBytes =
+    (station : Station) (store : List ℕ) → soundStation station ≡ true → fullSize store ≡ true
+    → (i : ℕ) (stream : Stream) → IsStream station i stream
+    → (bytes : List ℕ) → length bytes ≤ packetLimit (station .format)
+    → (others : List Call) → framesOf (station .format) (stream .key) others ≡ []
+    → (choices : List Bool)
+    → let frames = pieces (stream .key .fields) bytes in
+    let calls = woven choices (fed (stream .key .bus) frames) others in
+    (givens : List Received) → Chained (stateBytes station) store calls givens
+    → let ran = ended (stateBytes station) store givens in
+    (readIn (lastOf (stateBytes station) givens) (ran .store) i ≡ value bytes)
+    × (answersOf (station .format) (stream .key) calls (ran .answers) ≡ answersTo (length frames) (length bytes) (collecting (stream .progress)))
