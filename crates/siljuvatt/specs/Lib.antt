@@ -1,0 +1,4 @@
+pub mod Answers
+pub mod Arguments
+pub mod Calls
+pub mod Claims
