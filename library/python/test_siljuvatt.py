@@ -1,0 +1,526 @@
+"""Holds document 01's examples and rules against the module, and runs the examples.
+
+usage: python3 -m unittest test_siljuvatt   (in this folder; SILJUVATT_SO names the shared library)
+"""
+
+import contextlib
+import copy
+import doctest
+import itertools
+import mmap
+import os
+import pickle
+import re
+import subprocess
+import sys
+import threading
+import unittest
+from pathlib import Path
+
+import siljuvatt
+from siljuvatt import (
+    STORE_SIZE, Bus, Done, ExtendedFields, Filter, Filtered, Format, GaveUp, Kept, Kind, Master, Packet, Refusal,
+    Refused, Send, Silent, StandardFields, Station, Watch, id_of, piece_count, pieces, row_accepts, write_piece)
+
+HERE = Path(__file__).resolve().parent
+SAMPLES = HERE.parent.parent / "samples"
+
+MIDDLE, START, END, SINGLE = range(4)
+BOARD = ExtendedFields(1, 5, 0, 0, 2)
+SLAVE = StandardFields(2, 22, 1)
+KEPT, BROKE = Kept(False), Kept(True)
+
+# Format, fields, packet bytes in a piece that is not the last, and what numbers are taken modulo.
+BOTH = [(Format.EXTENDED, BOARD, 8, 64), (Format.STANDARD, SLAVE, 7, 256)]
+
+
+def image(fields, flag, number, data):
+    """The image of a piece by the tables, written out by hand and not by the library."""
+    if len(fields) == 5:
+        priority, source, group, destination, function = fields
+        head = [0x80 | len(data), priority << 6 | source, group << 6 | destination, flag << 6 | number, function << 3]
+        return bytes(head) + data
+    priority, address, side = fields
+    data = data if flag == SINGLE else bytes([number]) + data
+    return bytes([priority << 6 | address, side << 7 | flag << 5 | len(data)]) + data
+
+
+def split(fields, packet):
+    """A packet's pieces by document 01's rules on splitting."""
+    if len(packet) <= 8:
+        return [image(fields, SINGLE, 0, packet)]
+    size, modulus = (8, 64) if len(fields) == 5 else (7, 256)
+    parts = [packet[at:at + size] for at in range(0, len(packet), size)]
+    flags = [START] + [MIDDLE] * (len(parts) - 2) + [END]
+    return [image(fields, flag, k % modulus, part) for k, (flag, part) in enumerate(zip(flags, parts))]
+
+
+def packet_of(size, seed=0):
+    return bytes((i * 7 + i // 251 + seed * 31) % 256 for i in range(size))
+
+
+class Case(unittest.TestCase):
+    def refused(self, name, call, *arguments):
+        with self.assertRaises(Refused) as caught:
+            call(*arguments)
+        self.assertEqual(caught.exception.name, name)
+        self.assertEqual(caught.exception.number, Refusal[name])
+
+    def station(self, format=Format.EXTENDED, fields=BOARD):
+        station = Station(format)
+        self.assertEqual(station.open(Bus.A, fields), 0)
+        return station
+
+    def collect(self, station, fields, size, modulus, count):
+        """The stream starts and is fed this many whole pieces."""
+        for k in range(count):
+            piece = image(fields, MIDDLE if k else START, k % modulus, packet_of(size, k))
+            self.assertEqual(station.receive(Bus.A, piece), KEPT)
+
+    def unchanged(self, name, station, frame):
+        before = bytes(station), bytes(station.store)
+        self.refused(name, station.receive, Bus.A, frame)
+        self.assertTrue(before == (bytes(station), bytes(station.store)), name)
+
+
+class Document01(Case):
+    def test_extended_images(self):
+        station = self.station()
+        self.assertEqual(station.receive(Bus.A, bytes.fromhex("81 45 00 C0 10 07")), Packet(1, False))
+        self.assertEqual(station.read_bytes(0), b"\x07")
+        largest = self.station(fields=(3, 63, 3, 63, 31))
+        self.assertEqual(largest.receive(Bus.A, bytes.fromhex("80 FF FF C0 F8")), Packet(0, False))
+        self.assertEqual(largest.read_bytes(0), b"")
+        for name, frame in [
+                ("PIECE", "81 45 00 C1 10 07"), ("FORM", "91 45 00 C0 10 07"), ("FORM", "D1 45 00 C0 10 07"),
+                ("REMOTE", "C1 45 00 C0 10 07"), ("COUNT", "89 45 00 C0 10 01 02 03 04 05 06 07 08"),
+                ("LENGTH", "81 45 00 C0"), ("LENGTH", "81" * 14)]:
+            self.unchanged(name, station, bytes.fromhex(frame))
+
+    def test_standard_images(self):
+        station = self.station(Format.STANDARD, SLAVE)
+        self.assertEqual(station.receive(Bus.A, bytes.fromhex("96 E3 01 02 03")), Packet(3, False))
+        self.assertEqual(station.receive(Bus.A, bytes.fromhex("96 A8 00 01 02 03 04 05 06 07")), KEPT)
+        self.unchanged("PIECE", station, bytes.fromhex("96 C2 01 08"))
+        self.assertEqual(station.receive(Bus.A, bytes.fromhex("96 C3 01 08 09")), Packet(9, False))
+        self.assertEqual(station.read_bytes(0), bytes(range(1, 10)))
+
+    def test_piece_counts(self):
+        for format, sizes in [
+                (Format.EXTENDED, {0: 1, 8: 1, 9: 2, 16: 2, 17: 3, 2048: 256}),
+                (Format.STANDARD, {0: 1, 8: 1, 9: 2, 14: 2, 15: 3, 1792: 256})]:
+            for size, count in sizes.items():
+                self.assertEqual(piece_count(format, size), count)
+        self.refused("SIZE", piece_count, Format.EXTENDED, 2049)
+        self.refused("SIZE", piece_count, Format.STANDARD, 1793)
+
+    def test_byte_3_of_pieces_64_and_255(self):
+        images = list(pieces(Format.EXTENDED, BOARD, packet_of(2048)))
+        self.assertEqual((len(images), images[64][3], images[255][3]), (256, 0x00, 0xBF))
+
+    def test_filter_of_groups_1_and_3(self):
+        filter = Filter(0x00C0, 0xFFBF)
+        row = bytes.fromhex("00 FF C0 BF 00 FF C0 BF")
+        for group, source in itertools.product(range(4), range(64)):
+            id = id_of(image(ExtendedFields(1, source, group, 9, 2), SINGLE, 0, b""))
+            self.assertIs(filter.accepts(id), group in (1, 3))
+            self.assertIs(row_accepts(row, id), group in (1, 3))
+
+    def test_command_to_node_22(self):
+        master = Master()
+        self.assertEqual(master.start(Kind.COMMAND, 22), Send(Bus.A))
+        self.assertEqual(master.timeout(), Send(Bus.A))
+        self.assertEqual(master.timeout(), Send(Bus.B))
+        self.refused("NOTAWAITED", master.reply, Bus.A, 22, 4)
+        self.assertEqual(master.reply(Bus.B, 22, 4), Done())
+        self.assertEqual(master.start(Kind.COMMAND, 22), Send(Bus.B))
+
+    def test_silence(self):
+        for begin, now, silent in [
+                (0, 15_999, False), (0, 16_000, True), (4_294_967_000, 15_703, False), (4_294_967_000, 15_704, True)]:
+            self.assertEqual(Watch(begin).check(now), Silent(silent, silent))
+
+
+class Splitting(Case):
+    def test_every_size_comes_out_whole(self):
+        for format, fields, _, _ in BOTH:
+            station = self.station(format, fields)
+            for size in range(0, siljuvatt.LIMITS[format] + 1):
+                # Each size by its count, and a part of them piece by piece: Python is slow.
+                packet = packet_of(size, size)
+                expected = split(fields, packet)
+                self.assertEqual(piece_count(format, size), len(expected))
+                if size > 64 and size % 13 and size != siljuvatt.LIMITS[format]:
+                    continue
+                self.assertEqual(list(pieces(format, fields, packet)), expected)
+                for piece in expected:
+                    answer = station.receive(Bus.A, piece)
+                self.assertEqual(answer, Packet(size, False))
+                self.assertEqual(station.read_bytes(0), packet)
+
+    def test_refused_in_order_and_nothing_written(self):
+        output = bytearray(b"\xEE" * 4)
+        over = BOARD._replace(source=64)
+        self.refused("FIELD", write_piece, Format.EXTENDED, over, bytes(2049), 999, output)
+        self.refused("SIZE", write_piece, Format.EXTENDED, BOARD, bytes(2049), 999, output)
+        self.refused("INDEX", write_piece, Format.EXTENDED, BOARD, bytes(9), 2, output)
+        self.refused("ROOM", write_piece, Format.EXTENDED, BOARD, bytes(9), 1, output)
+        self.refused("ROOM", write_piece, Format.EXTENDED, BOARD, bytes(9), 1, bytearray())
+        self.refused("FIELD", pieces, Format.EXTENDED, over, bytes(2049))
+        self.refused("SIZE", pieces, Format.STANDARD, SLAVE, bytes(1793))
+        self.assertEqual(output, b"\xEE" * 4)
+
+    def test_only_the_image_is_written(self):
+        output = bytearray(b"\xEE" * 20)
+        length = write_piece(Format.STANDARD, SLAVE, b"004127019", 1, output)
+        self.assertEqual(output, bytes.fromhex("96 C3 01 31 39") + b"\xEE" * 15)
+        self.assertEqual(length, 5)
+
+    def test_numbers_that_do_not_fit_do_not_wrap(self):
+        for over in (256, 256 + 1, -1, 2**64, 2**64 + 1):
+            self.refused("FIELD", pieces, over, BOARD, b"")
+            self.refused("FIELD", pieces, Format.EXTENDED, BOARD._replace(source=over), b"")
+        self.refused("FIELD", piece_count, 256, 0)
+        self.refused("SIZE", piece_count, Format.EXTENDED, 2**64)
+        self.refused("INDEX", write_piece, Format.EXTENDED, BOARD, b"", 2**64, bytearray(13))
+        self.assertRaises(ValueError, Filter(0x10000, 0).accepts, 0)
+
+    def test_packets_are_bytes(self):
+        for wrong in (7, "007", None, 7.0):
+            self.assertRaises(TypeError, pieces, Format.EXTENDED, BOARD, wrong)
+            self.assertRaises(TypeError, self.station().receive, Bus.A, wrong)
+        for right in (b"007", bytearray(b"007"), memoryview(b"x007")[1:]):
+            self.assertEqual(list(pieces(Format.EXTENDED, BOARD, right)), split(BOARD, b"007"))
+
+    def test_fields_of_another_format(self):
+        self.refused("FIELD", pieces, Format.STANDARD, BOARD, b"")
+        self.refused("FIELD", pieces, Format.EXTENDED, SLAVE, b"")
+        self.refused("FIELD", Station(Format.EXTENDED).open, Bus.A, SLAVE)
+
+    def test_leading_zeros_are_kept(self):
+        for format, fields, _, _ in BOTH:
+            for serial in (b"0", b"", b"000000000", b"004127019", b"\0\0\0\x2A", b"0" * 40 + b"1"):
+                station = self.station(format, fields)
+                for piece in pieces(format, fields, serial):
+                    station.receive(Bus.A, piece)
+                self.assertEqual(station.read_bytes(0), serial)
+
+
+class Receiving(Case):
+    def test_broke(self):
+        for format, fields, size, modulus in BOTH:
+            station = self.station(format, fields)
+            self.collect(station, fields, size, modulus, 3)
+            self.assertEqual(station.receive(Bus.A, image(fields, START, 0, b"9" * size)), BROKE)
+            self.assertEqual(station.receive(Bus.A, image(fields, END, 1, b"07")), Packet(size + 2, False))
+            self.assertEqual(station.read_bytes(0), b"9" * size + b"07")
+            self.collect(station, fields, size, modulus, 1)
+            self.assertEqual(station.receive(Bus.A, image(fields, SINGLE, 0, b"01")), Packet(2, True))
+
+    def test_orphan_keeps_a_done_packet(self):
+        for format, fields, size, _ in BOTH:
+            station = self.station(format, fields)
+            self.unchanged("ORPHAN", station, image(fields, END, 1, b"07"))
+            self.assertEqual(station.receive(Bus.A, image(fields, SINGLE, 0, b"0042")), Packet(4, False))
+            self.unchanged("ORPHAN", station, image(fields, MIDDLE, 1, b"8" * size))
+            self.assertEqual(station.read_bytes(0), b"0042")
+
+    def test_step_then_idle(self):
+        for format, fields, size, modulus in BOTH:
+            station = self.station(format, fields)
+            self.collect(station, fields, size, modulus, 2)
+            before = bytes(station.store)
+            self.refused("STEP", station.receive, Bus.A, image(fields, MIDDLE, 3, b"8" * size))
+            self.assertTrue(bytes(station.store) == before)
+            self.refused("ORPHAN", station.receive, Bus.A, image(fields, MIDDLE, 2, b"8" * size))
+            self.refused("NOPACKET", station.read, 0)
+            self.assertEqual(station.receive(Bus.A, image(fields, START, 0, b"8" * size)), KEPT)
+
+    def test_long_at_2048_then_idle(self):
+        station = self.station()
+        self.collect(station, BOARD, 8, 64, 256)
+        before = bytes(station.store)
+        self.refused("LONG", station.receive, Bus.A, image(BOARD, END, 0, b"1"))
+        self.assertTrue(bytes(station.store) == before)
+        self.refused("ORPHAN", station.receive, Bus.A, image(BOARD, END, 0, b"1"))
+
+    def test_long_stands_behind_step(self):
+        station = self.station()
+        self.collect(station, BOARD, 8, 64, 256)
+        self.refused("STEP", station.receive, Bus.A, image(BOARD, END, 1, b"1"))
+
+    def test_images_refused_in_their_order(self):
+        station = self.station()
+        for name, frame in [
+                ("LENGTH", "7F 00 00 00"), ("FORM", "7F 45 00 C1 17"), ("FORM", "EF 45 00 C1 10"), ("FORM", "80 45 00 C0 11"),
+                ("REMOTE", "CF 45 00 C1 10"), ("COUNT", "8F 45 00 C1 10"), ("COUNT", "82 45 00 C1 10 01"),
+                ("PIECE", "81 45 00 C1 10 01"), ("ORPHAN", "81 45 00 81 10 01")]:
+            self.unchanged(name, station, bytes.fromhex(frame))
+        station = self.station(Format.STANDARD, SLAVE)
+        for name, frame in [
+                ("LENGTH", "96"), ("LENGTH", "96" * 11), ("REMOTE", "96 FF"), ("COUNT", "96 EF"), ("COUNT", "96 E2 01"),
+                ("PIECE", "96 A1 00"), ("PIECE", "96 88 FF 01 02 03 04 05 06 07"), ("PIECE", "96 C0"),
+                ("ORPHAN", "96 88 FE 01 02 03 04 05 06 07")]:
+            self.unchanged(name, station, bytes.fromhex(frame))
+
+    def test_number_modulo_64_in_extended_alone(self):
+        station = self.station()
+        self.collect(station, BOARD, 8, 64, 64)
+        self.assertEqual(station.receive(Bus.A, image(BOARD, END, 0, b"1")), Packet(513, False))
+        station = self.station(Format.STANDARD, SLAVE)
+        self.collect(station, SLAVE, 7, 256, 255)
+        self.assertEqual(station.receive(Bus.A, image(SLAVE, END, 255, b"8" * 7)), Packet(1792, False))
+
+    def test_key_is_bus_and_every_field(self):
+        for format, fields, _, _ in BOTH:
+            station = self.station(format, fields)
+            own = image(fields, SINGLE, 0, b"1")
+            self.assertEqual(station.receive(Bus.B, own), Filtered())
+            for place in range(len(fields)):
+                other = [field ^ (place == at) for at, field in enumerate(fields)]
+                self.assertEqual(station.receive(Bus.A, image(other, SINGLE, 0, b"1")), Filtered())
+            self.assertEqual(station.receive(Bus.A, own), Packet(1, False))
+
+    def test_store_then_bus_then_image(self):
+        station = Station(Format.EXTENDED, bytearray(STORE_SIZE - 1))
+        self.refused("STORE", station.receive, 2, b"")
+        self.refused("STORE", station.read, 16)
+        for bus in (2, 256, -1):
+            self.refused("FIELD", Station().receive, bus, b"")
+        self.refused("LENGTH", Station().receive, Bus.A, b"")
+
+
+class Streams(Case):
+    def test_slots(self):
+        station = Station()
+        for source in range(16):
+            self.assertEqual(station.open(Bus.A, BOARD._replace(source=source)), source)
+        self.refused("FIELD", station.open, 2, BOARD)
+        self.refused("TAKEN", station.open, Bus.A, BOARD)
+        self.refused("FULL", station.open, Bus.B, BOARD)
+        station.close(9)
+        station.close(4)
+        self.refused("CLOSED", station.close, 4)
+        self.refused("CLOSED", station.read, 4)
+        for slot in (16, -1, 2**64, 2**64 + 1):
+            self.refused("CLOSED", station.close, slot)
+            self.refused("CLOSED", station.read, slot)
+        self.assertEqual(station.open(Bus.B, BOARD), 4)
+
+    def test_two_boards_in_every_order(self):
+        keys = [(Bus.A, BOARD), (Bus.B, BOARD)]
+        packets = [packet_of(33, 1), packet_of(33, 2)]
+        orders = list(itertools.combinations(range(10), 5))
+        self.assertEqual(len(orders), 252)
+        for order in orders:
+            station = Station()
+            slots = [station.open(*key) for key in keys]
+            frames = [iter(split(BOARD, packet)) for packet in packets]
+            for turn in range(10):
+                which = turn in order
+                station.receive(keys[which][0], next(frames[which]))
+            self.assertEqual([station.read_bytes(slot) for slot in slots], packets, order)
+
+    def test_functions_of_one_node_are_kept_apart(self):
+        other = BOARD._replace(function=4)
+        station = self.station()
+        station.open(Bus.A, other)
+        for one, two in zip(split(BOARD, packet_of(99, 1)), split(other, packet_of(99, 2))):
+            station.receive(Bus.A, one)
+            station.receive(Bus.A, two)
+        self.assertEqual(station.read_bytes(0), packet_of(99, 1))
+        self.assertEqual(station.read_bytes(1), packet_of(99, 2))
+
+    def test_read_is_the_part_of_the_store(self):
+        station = self.station()
+        station.receive(Bus.A, image(BOARD, SINGLE, 0, b"007"))
+        view, kept = station.read(0), station.read_bytes(0)
+        self.assertTrue(view.readonly)
+        self.assertEqual(view, b"007")
+        station.receive(Bus.A, image(BOARD, SINGLE, 0, b"008"))
+        self.assertEqual((bytes(view), kept), (b"008", b"007"))
+        self.assertEqual(station.store[:4], b"008\0")
+
+    def test_lent_stores(self):
+        with mmap.mmap(-1, STORE_SIZE) as lent:
+            station = Station(Format.EXTENDED, lent)
+            station.open(Bus.A, BOARD)
+            station.receive(Bus.A, image(BOARD, SINGLE, 0, b"007"))
+            self.assertEqual(lent[:3], b"007")
+            self.assertEqual(station.read_bytes(0), b"007")
+            del station
+        lent = bytearray(STORE_SIZE)
+        station = Station(Format.EXTENDED, lent)
+        with self.assertRaises(BufferError):
+            lent.append(0)  # the station has it in use
+        self.assertRaises(TypeError, Station, Format.EXTENDED, bytes(STORE_SIZE))
+
+    def test_bytes_and_copies(self):
+        station = self.station()
+        first, *rest = split(BOARD, packet_of(30))
+        station.receive(Bus.A, first)
+        others = [
+            copy.copy(station), copy.deepcopy(station), pickle.loads(pickle.dumps(station)),
+            Station.from_bytes(bytes(station), bytearray(station.store))]
+        before = bytes(station), bytes(station.store)
+        for other in others:
+            for piece in rest:
+                other.receive(Bus.A, piece)
+            self.assertEqual(other.read_bytes(0), packet_of(30))
+        self.assertEqual((bytes(station), bytes(station.store)), before)
+
+    def test_bytes_that_are_no_sound_station(self):
+        sound = bytes(self.station())
+        self.assertEqual(bytes(Station.from_bytes(sound)), sound)
+        for place, byte in [(128, 2), (1, 64), (6, 4), (4, 1)]:
+            self.refused("STATE", Station.from_bytes, sound[:place] + bytes([byte]) + sound[place + 1:])
+        self.refused("STATE", Station.from_bytes, sound[:8] * 2 + sound[16:])  # one key twice
+        self.refused("STATE", Station.from_bytes, sound[1:])
+        self.refused("STATE", Station.from_bytes, b"")
+        self.refused("FIELD", Station, 2)
+
+    def test_threads(self):
+        station = Station()
+        keys = [BOARD._replace(source=source) for source in range(4)]
+        slots = [station.open(Bus.A, key) for key in keys]
+
+        def send(key, seed):
+            for piece in split(key, packet_of(2000, seed)):
+                station.receive(Bus.A, piece)
+
+        threads = [threading.Thread(target=send, args=(key, seed)) for seed, key in enumerate(keys)]
+        for thread in threads:
+            thread.start()
+        for thread in threads:
+            thread.join()
+        self.assertEqual([station.read_bytes(slot) for slot in slots], [packet_of(2000, seed) for seed in range(4)])
+
+
+class Exchanges(Case):
+    def test_poll_and_data_block(self):
+        master = Master()
+        self.assertEqual(master.start(Kind.POLL, 7), Send(Bus.A))
+        self.refused("NOTAWAITED", master.reply, Bus.A, 7, 4)
+        self.assertEqual(master.timeout(), GaveUp())
+        self.assertEqual(master.start(Kind.DATA_BLOCK, 7), Send(Bus.B))
+        self.assertEqual(master.timeout(), Send(Bus.B))
+        self.assertEqual(master.reply(Bus.B, 7, 4), Done())
+
+    def test_command_goes_over_and_back(self):
+        master = Master()
+        for first, other in [(Bus.A, Bus.B), (Bus.B, Bus.A)]:
+            self.assertEqual(master.start(Kind.COMMAND, 22), Send(first))
+            self.assertEqual([master.timeout() for _ in range(3)], [Send(first), Send(other), GaveUp()])
+        self.assertEqual(master.start(Kind.COMMAND, 22), Send(Bus.A))
+        self.assertEqual(master.reply(Bus.A, 22, 4), Done())
+        self.assertEqual(master.start(Kind.COMMAND, 23), Send(Bus.A))
+
+    def test_refused_in_order(self):
+        master = Master()
+        self.refused("FIELD", master.start, Kind.POLL, 64)
+        for over in (0, 4, 256 + 1):
+            self.refused("FIELD", master.start, over, 22)
+        self.refused("FIELD", master.start, Kind.POLL, 256 + 22)
+        self.refused("FIELD", master.reply, 2, 22, 4)
+        self.refused("FIELD", master.reply, Bus.A, 22, 32)
+        self.refused("IDLE", master.reply, Bus.A, 22, 4)
+        self.refused("IDLE", master.timeout)
+        master.start(Kind.COMMAND, 22)
+        self.refused("BUSY", master.start, Kind.POLL, 1)
+        for bus, node, function in [(Bus.B, 22, 4), (Bus.A, 23, 4), (Bus.A, 22, 2)]:
+            self.refused("NOTAWAITED", master.reply, bus, node, function)
+
+    def test_bytes_and_copies(self):
+        master = Master()
+        master.start(Kind.COMMAND, 22)
+        sound = bytes(master)
+        for other in (copy.copy(master), copy.deepcopy(master), Master.from_bytes(sound)):
+            self.assertEqual(other.reply(Bus.A, 22, 4), Done())
+        self.assertEqual(bytes(master), sound)
+        for place, byte in [(0, 2), (64, 4), (65, 64), (66, 0), (66, 4)]:
+            self.refused("STATE", Master.from_bytes, sound[:place] + bytes([byte]) + sound[place + 1:])
+        self.refused("STATE", Master.from_bytes, sound[1:])
+
+    def test_watch(self):
+        watch = Watch(1000)
+        watch.heard(Bus.A, 9000)
+        self.refused("FIELD", watch.heard, 2, 0)
+        self.assertEqual(watch.check(16_999), (False, False))
+        self.assertEqual(watch.check(17_000), (False, True))
+        self.assertEqual(Watch.from_bytes(bytes(watch)).check(25_000), (True, False))
+        self.assertEqual(copy.copy(watch).check(2**32 + 25_000), (True, False))
+        self.assertEqual(watch.check(24_999), (False, False))
+        self.refused("STATE", Watch.from_bytes, b"1234567")
+
+    def test_rows(self):
+        row = bytes.fromhex("12 0F 34 F0 AB 00 CD 01")
+        first, second = Filter(0x1234, 0x0FF0), Filter(0xABCD, 0x0001)
+        for id in range(0, 0x10000, 3):
+            self.assertIs(row_accepts(row, id), first.accepts(id) or second.accepts(id))
+        self.refused("FIELD", row_accepts, row[1:], 0)
+        self.assertRaises(ValueError, row_accepts, row, 0x10000)
+        self.assertRaises(ValueError, id_of, b"\x81\x45")
+
+
+class Examples(Case):
+    def run_example(self, *arguments):
+        command = [sys.executable, str(HERE / "example.py"), *map(str, arguments)]
+        return subprocess.run(command, capture_output=True, text=True)
+
+    def test_example_prints_what_is_written_beside_it(self):
+        ran = self.run_example(SAMPLES / "two-boards.trace")
+        self.assertEqual((ran.returncode, ran.stderr), (0, ""))
+        self.assertEqual(ran.stdout, (HERE / "example.txt").read_text())
+
+    def test_example_agrees_with_the_listing(self):
+        listed = re.findall(r"^(\d+) [AB].* (?:packet|refused) (\d+)", (SAMPLES / "two-boards.txt").read_text(), re.M)
+        printed = re.findall(r"^record (\d+): .*?(?:(\d+) bytes|refused (\d+))", (HERE / "example.txt").read_text(), re.M)
+        self.assertGreater(len(listed), 10)
+        self.assertEqual([(record, size or number) for record, size, number in printed], listed)
+
+    def test_example_stops_at_damage(self):
+        ran = self.run_example(SAMPLES / "two-boards.txt")
+        self.assertEqual((ran.returncode, ran.stdout, ran.stderr), (1, "", "record 1: damaged\n"))
+
+    def test_text_of_the_module(self):
+        failed, tried = doctest.testmod(siljuvatt)
+        self.assertGreater(tried, 10)
+        self.assertEqual(failed, 0)
+
+    def test_page_for_programmers(self):
+        failed, tried = doctest.testfile(str(HERE.parent / "README.md"), module_relative=False)
+        self.assertGreater(tried, 5)
+        self.assertEqual(failed, 0)
+
+
+class Loading(Case):
+    def test_library_that_is_not_there(self):
+        with contextlib.ExitStack() as stack:
+            named = os.environ.pop("SILJUVATT_SO", None)
+            if named is not None:
+                stack.callback(os.environ.__setitem__, "SILJUVATT_SO", named)
+            places = siljuvatt._places
+            stack.callback(setattr, siljuvatt, "_places", places)
+            siljuvatt._places = lambda: [HERE / "none.so"]
+            with self.assertRaisesRegex(OSError, "make-shared"):
+                siljuvatt.load()
+
+    def test_library_by_argument(self):
+        siljuvatt.load(os.environ.get("SILJUVATT_SO"))
+        self.assertEqual(piece_count(Format.EXTENDED, 9), 2)
+        self.assertRaises(OSError, siljuvatt.load, "none.so")
+        self.assertEqual(piece_count(Format.EXTENDED, 9), 2)
+
+    def test_names_of_refusals(self):
+        names = ("LENGTH FORM REMOTE COUNT PIECE ORPHAN STEP LONG FIELD SIZE INDEX ROOM STORE TAKEN FULL CLOSED NOPACKET "
+                 "BUSY IDLE NOTAWAITED STATE").split()
+        self.assertEqual([refusal.name for refusal in Refusal], names)
+        for number, name in enumerate(names, 1):
+            self.assertTrue(str(Refused(number)).startswith(f"{number} {name}: "))
+            again = pickle.loads(pickle.dumps(Refused(number)))
+            self.assertEqual((again.number, again.name, str(again)), (number, name, str(Refused(number))))
+        self.assertRaises(ValueError, Refused, 22)
+
+
+if __name__ == "__main__":
+    unittest.main()

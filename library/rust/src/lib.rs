@@ -1,0 +1,57 @@
+//! Satellite avionics units on their two CAN lines, to GB/T 43671-2024: frames of both formats, split and joined; up to
+//! sixteen streams a [`Station`]; acceptance filters ([`Filter`], [`Row`]); a [`Master`]'s exchanges over both buses; a
+//! [`Watch`] for a bus gone silent.
+//!
+//! The functions behind this crate are proved to answer as document 01 of the order says, for every input. The crate
+//! itself is thin, and tested: it hands slices to those functions and names their answers. No call asks anything of its
+//! caller; what cannot be done is a [`Refusal`], and nothing has changed then, but for the stream that lost its place
+//! ([`Refusal::Step`], [`Refusal::Long`]).
+//!
+//! ```
+//! use siljuvatt::{pieces, Bus, Fields, Format, Key, Reply, Station, Store};
+//!
+//! # fn main() -> Result<(), siljuvatt::Refusal> {
+//! let fields = Fields::Extended { priority: 1, source: 5, group: 0, destination: 0, function: 2 };
+//! let mut station = Station::new(Format::Extended);
+//! let mut store = Store::new();
+//! let slot = station.open(Key { bus: Bus::A, fields })?;
+//!
+//! // A packet is bytes, so the serial keeps its zeros. Nine bytes travel as two pieces.
+//! let mut images = pieces(fields, b"004127019")?;
+//! let (first, second) = (images.next().unwrap(), images.next().unwrap());
+//! assert_eq!(station.receive(&mut store, Bus::A, &first)?, Reply::Kept { broke: false });
+//! assert_eq!(station.receive(&mut store, Bus::A, &second)?, Reply::Packet { length: 9, broke: false });
+//! assert_eq!(station.read(&store, slot)?, b"004127019");
+//! # Ok(())
+//! # }
+//! ```
+
+#![deny(missing_docs)]
+#![deny(unsafe_code)]
+#![forbid(unsafe_op_in_unsafe_fn)]
+
+#[allow(unsafe_code)]
+mod ffi;
+#[allow(unsafe_code)]
+mod raw;
+
+mod fields;
+mod filter;
+mod master;
+mod refusal;
+mod split;
+mod station;
+mod watch;
+
+pub use fields::{Bus, Fields, Format, Key};
+pub use filter::{id_of, Filter, Row};
+pub use master::{Kind, Master, Step};
+pub use refusal::{NoRefusal, Refusal};
+pub use split::{piece_count, pieces, write_piece, Image, Pieces};
+pub use station::{Reply, Station, Store};
+pub use watch::{Silent, Watch};
+
+// The examples in Rust of the page for programmers run with the tests of this crate.
+#[cfg(doctest)]
+#[doc = include_str!("../../README.md")]
+struct Readme;
