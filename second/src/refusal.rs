@@ -1,7 +1,6 @@
 //! The refusal numbers.
 
 /// Why a call was refused; the discriminant is the number of document 01.
-/// The numbers 18 to 20 belong to the master, which is not part of this program.
 #[derive(Clone, Copy, Debug, PartialEq, Eq)]
 pub enum Refusal {
     Length = 1,
@@ -21,6 +20,9 @@ pub enum Refusal {
     Full = 15,
     Closed = 16,
     NoPacket = 17,
+    Busy = 18,
+    Idle = 19,
+    NotAwaited = 20,
     State = 21,
 }
 
@@ -55,10 +57,14 @@ mod tests {
             Refusal::Full,
             Refusal::Closed,
             Refusal::NoPacket,
+            Refusal::Busy,
+            Refusal::Idle,
+            Refusal::NotAwaited,
+            Refusal::State,
         ];
         for (number, refusal) in (1..).zip(in_order) {
             assert_eq!(refusal.number(), number);
         }
-        assert_eq!(Refusal::State.number(), 21);
+        assert_eq!(in_order.len(), 21);
     }
 }
