@@ -1,0 +1,10 @@
+//! The library, and plain Rust of the same contract to measure it against.
+
+pub mod arrivals;
+pub mod bytes;
+pub mod cases;
+pub mod library;
+pub mod measured;
+pub mod plain;
+pub mod receivers;
+pub mod split;
