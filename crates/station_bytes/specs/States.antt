@@ -34,7 +34,8 @@ progressNumber Idle = 65536
 progressNumber (Collecting h) = 131072 + h
 progressNumber (Done h) = 196608 + h
 
--- the two numbers of a record
+-- the two numbers of a record: the key's is `keyCode`, from the lowest bit priority (2 bits), function (5), bus (1), then source, group and
+-- destination, a byte each; in standard priority (2), 0 (5), bus (1), address (6), 01, and side from bit 16 on
 abbrev pub firstOf : Occupancy → ℕ
 firstOf Closed = 0
 firstOf (Open stream) = keyCode (stream .key)
@@ -82,7 +83,7 @@ formatAt state = formatIn (getD state 128 0)
 abbrev pub stationIn : List ℕ → Station
 stationIn state = stationOf (formatAt state) (slotsFrom (formatAt state) state 0 16)
 
--- ---- whether bytes are those of a station: of those read back
+-- ---- whether bytes are those of a station, sound or not: of the one that is read back
 
 -- the two numbers are those of the slot that they are read as
 abbrev pub slotWritten : Format → (first second : ℕ) → Bool
