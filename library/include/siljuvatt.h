@@ -2,8 +2,9 @@
  * siljuvatt: satellite avionics units on their two CAN lines, to GB/T 43671-2024.
  *
  * Frames of both formats, split and joined; up to sixteen streams a station; acceptance filters; a master's
- * exchanges over both buses; a watch for a bus gone silent. Every function is proved to answer as its
- * description says for every input: any numbers, any bytes, any length. Nothing has to be checked before a call.
+ * exchanges over both buses; a watch for a bus gone silent. Every function is proved, for every input, against the
+ * definitions that these descriptions put into words: any numbers, any bytes, any length. Nothing has to be
+ * checked before a call.
  *
  * MEMORY. The library has none of its own and keeps no pointer: a call works on what it is lent and is done with
  * it when it returns. A station, a master and a watch are bytes that the caller owns (SILJUVATT_STATION_SIZE and

@@ -1,4 +1,4 @@
-use mathlib.Core.Bool.{Bool}
+use mathlib.Core.Bool.{Bool, cond}
 use Rattle.filter.specs.declared.Pair.{Pair}
 use Rattle.filter.specs.Filters.{eitherAccepts, rowPair}
 -- `siljuvatt_row_accepts` meets its contract: the row is its eight bytes.
@@ -6,6 +6,7 @@ use mathlib.Core.Path.{_≡_, _∙_, ap, sym}
 use native.Mathlib.Omega.{arith}
 use borrow.Author.Tests.{eq-eqb, ne-eqb}
 use Rattle.format.specs.Refusals.{guarded}
+use Rattle.siljuvatt.specs.Answers.{numberWord}
 use Rattle.siljuvatt.specs.Calls.{rowIn}
 use borrow.Author.Needs.{needs}
 use Rattle.siljuvatt.proofs.siljuvatt_row_accepts.Statement.{statement}
@@ -54,7 +55,7 @@ returns-2 c = let f = c .before .before in
     let i = f .before .before .before .before .before .before .before .before .before in
     let g = i .before .before .args in
     let e = ap (λ (pair : Pair). eitherAccepts pair (g .id)) (sym (f .from-row .ensures)) ∙ sym (c .before .accepts .ensures) ∙ c .if2 .taken in
-    rw (eq-eqb _ _ (i .if1 .left), e)
+    rw (eq-eqb _ _ (i .if1 .left)) (ap (λ (b : Bool). numberWord (cond b 1 0)) (sym e))
 
 returns-3 : tie.Need-returns-3
 unfolding rowIn guarded rowPair
@@ -62,7 +63,7 @@ returns-3 c = let f = c .before .before in
     let i = f .before .before .before .before .before .before .before .before .before in
     let g = i .before .before .args in
     let e = ap (λ (pair : Pair). eitherAccepts pair (g .id)) (sym (f .from-row .ensures)) ∙ sym (c .before .accepts .ensures) ∙ c .if2 .left in
-    rw (eq-eqb _ _ (i .if1 .left), e)
+    rw (eq-eqb _ _ (i .if1 .left)) (ap (λ (b : Bool). numberWord (cond b 1 0)) (sym e))
 
 pub siljuvatt-row-accepts-spec : {M : Type 1} → statement M
 siljuvatt-row-accepts-spec =
