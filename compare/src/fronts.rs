@@ -1,88 +1,137 @@
-//! Compares both receiving fronts with the second program, on generated traces.
+//! Compares the front that receives over a lent table with the second program, on generated traces.
 
+use crate::calls::keep_script;
+use crate::exchange;
+use crate::frame::{Format, Key};
 use crate::observe::ANSWERS;
-use crate::program::{self, drip, take_all};
+use crate::program::{self, drip};
 use crate::random::Random;
+use crate::request::{self, answer, encode, name, Request, FULL_STORE};
 use crate::tally::Tally;
-use crate::trace::{Trace, DAMAGES};
-use crate::traces::keep_trace;
+use crate::trace::{read_record, Trace};
+use std::io::BufReader;
 use std::path::Path;
 use std::process::Command;
 
-/// The program takes no more bytes of a trace.
-const MOST: usize = 65_536;
-
-const SLOTS: usize = 16;
-const STORE_BYTES: usize = 32_768;
-
 const SMALL_PARTS: &str = "input: written in small parts";
 
-/// Runs the program on those of that many traces that it takes whole, and compares each answer of each front.
-pub fn compare(fronts: &Path, count: u64, seed: u64, keep: Option<&Path>) -> Result<(), String> {
+/// What opening a key can answer here: it is new, open already, or all slots are taken.
+const OPENED: [&str; 3] = ["value", "refused 14", "refused 15"];
+
+/// Has the program receive the records of that many traces and compares each response with the second program's.
+pub fn compare(calls: &Path, count: u64, seed: u64, keep: Option<&Path>) -> Result<(), String> {
     let mut tally = Tally::requiring(names());
-    let (mut fed, mut left_out, mut records) = (0, 0, 0);
+    let mut records = 0;
     for number in 0..count {
         let trace = Trace::generate(seed, number);
-        if trace.bytes.len() > MOST {
-            left_out += 1;
-            continue;
-        }
         let part = part_size(&trace, &mut Random::of_item(!seed, number));
-        compare_one(fronts, &trace, part, &mut tally).map_err(|difference| {
-            let kept = keep.map_or(String::new(), |file| keep_trace(file, &trace.bytes));
-            format!("seed {seed}, trace {number}: {difference}{kept}")
+        let told = |difference| format!("seed {seed}, trace {number}: {difference}");
+        let script = script(&trace).map_err(told)?;
+        compare_one(calls, &script, part, &mut tally).map_err(|difference| {
+            let bytes = encode(&script.requests);
+            let kept = keep.map_or(String::new(), |file| keep_script(file, &bytes));
+            told(difference + &kept)
         })?;
-        fed += 1;
         records += trace.records;
     }
     tally.print();
     tally.check()?;
-    println!(
-        "equal: {fed} traces, {records} records; left out: {left_out} traces of over {MOST} bytes"
-    );
+    println!("equal: {count} traces, {records} records");
     Ok(())
 }
 
 fn names() -> Vec<String> {
-    let mut names: Vec<String> = ANSWERS.iter().map(|answer| row(answer)).collect();
-    names.extend(DAMAGES.map(|name| format!("damage: {name}")));
-    names.push(SMALL_PARTS.to_string());
-    names
+    let received = ANSWERS.map(|answer| row(request::RECEIVE, answer));
+    let opened = OPENED.map(|answer| row(request::OPEN, answer));
+    let parts = [SMALL_PARTS.to_string()];
+    received.into_iter().chain(opened).chain(parts).collect()
 }
 
-fn row(answer: &str) -> String {
-    format!("second front: {answer}")
+fn row(operation: u8, answer: &str) -> String {
+    format!("front 1 {} {answer}", name(operation))
 }
 
-/// In how large parts a trace is handed over. Some come in small ones, since the program must read until the
-/// input ends; only short traces, because it takes time.
+/// In how large parts a script is handed over: whole, or some of the short ones in small parts, because it takes
+/// time.
 fn part_size(trace: &Trace, random: &mut Random) -> usize {
     if trace.bytes.len() < 4000 && random.chance(100) {
         random.pick(&[1, 2, 3, 7, 16])
     } else {
-        MOST
+        usize::MAX
     }
 }
 
-fn compare_one(fronts: &Path, trace: &Trace, part: usize, tally: &mut Tally) -> Result<(), String> {
-    let feed = |input: &mut _| drip(input, &trace.bytes, part);
-    let output = program::run(&mut Command::new(fronts), feed, take_all)?;
-    let output = String::from_utf8(output).map_err(|_| "the program writes no text")?;
+fn compare_one(
+    calls: &Path,
+    script: &Script,
+    part: usize,
+    tally: &mut Tally,
+) -> Result<(), String> {
+    let requests = &script.requests;
+    let expected = exchange::by_second(requests, &[])?;
+    check_listed(script, &expected)?;
+    let bytes = encode(requests);
+    program::run(
+        &mut Command::new(calls),
+        |input| drip(input, &bytes, part),
+        |output| {
+            let mut output = BufReader::new(output);
+            exchange::compare(&mut output, requests, &expected)?;
+            exchange::at_end(&mut output)
+        },
+    )?;
+    for (request, response) in requests.iter().zip(&expected) {
+        if [request::OPEN, request::RECEIVE].contains(&request[0]) {
+            tally.count(&row(request[0], &answer(response)));
+        }
+    }
+    if part < usize::MAX {
+        tally.count(SMALL_PARTS);
+    }
+    Ok(())
+}
+
+/// The requests for a trace, and what the second program's listing says of each record.
+struct Script {
+    requests: Vec<Request>,
+    listed: Vec<String>,
+}
+
+/// Receives each whole record at the front over a lent table, after opening its key as a listing does, and asks
+/// for the store.
+fn script(trace: &Trace) -> Result<Script, String> {
     let listing = by_second(&trace.bytes)?;
     let records = records_of(&listing)?;
+    let mut requests = vec![request::new(Format::Extended), request::front(1)];
+    let mut rest = &trace.bytes[..];
+    for record in &records {
+        let (bus, image) = match read_record(&mut rest) {
+            Ok(Some(found)) if found.0 == record.bus => found,
+            _ => return Err(format!("second: no such record: {:?}", record.line)),
+        };
+        if let Some(fields) = record.fields {
+            let format = Format::Extended;
+            let key = Key {
+                bus,
+                format,
+                fields,
+            };
+            requests.push(request::open(&key, 0));
+        }
+        requests.push(request::receive(bus, &image));
+    }
     if records.len() != trace.records {
         let (listed, made) = (records.len(), trace.records);
         return Err(format!(
             "second: {listed} records, but the trace has {made}"
         ));
     }
-    check(&output, &records)?;
-    // Each answer listed was the second front's too.
-    for record in &records {
-        tally.count(&row(&without_length(record.answer)));
-    }
-    count_known(trace, part, tally);
-    Ok(())
+    requests.push(request::store(0, FULL_STORE));
+    let listed = records.iter().map(|record| record.answer.to_string());
+    Ok(Script {
+        listed: listed.collect(),
+        requests,
+    })
 }
 
 fn by_second(trace: &[u8]) -> Result<String, String> {
@@ -95,132 +144,143 @@ fn by_second(trace: &[u8]) -> Result<String, String> {
 #[derive(Debug, PartialEq)]
 struct Record<'a> {
     line: &'a str,
-    number: &'a str,
-    bus: &'a str,
+    bus: u8,
+    /// Of an image that is a frame: priority, source, group, destination and function.
+    fields: Option<[u8; 5]>,
     answer: &'a str,
 }
 
 impl<'a> Record<'a> {
     /// Takes a line apart. A line that is no record's gives nothing.
     fn parse(line: &'a str) -> Option<Record<'a>> {
-        let (number, rest) = line.split_once(' ')?;
+        let (_, rest) = line.split_once(' ')?;
         let (bus, rest) = rest.split_once(' ')?;
+        let bus = match bus {
+            "A" => 0,
+            "B" => 1,
+            _ => return None,
+        };
         // An image that is no frame has no fields to show.
-        let answer = match rest.starts_with("refused ") {
-            true => rest,
-            false => rest.splitn(9, ' ').nth(8)?,
+        let (fields, answer) = match rest.starts_with("refused ") {
+            true => (None, rest),
+            false => {
+                let words: Vec<&str> = rest.splitn(9, ' ').collect();
+                let &[p, s, g, d, _, _, f, _, answer] = &words[..] else {
+                    return None;
+                };
+                (Some(numbers([p, s, g, d, f])?), answer)
+            }
         };
         Some(Record {
             line,
-            number,
             bus,
+            fields,
             answer,
         })
     }
+}
 
-    /// The line that the program must write.
-    fn at_both_fronts(&self) -> String {
-        let Record {
-            number,
-            bus,
-            answer,
-            ..
-        } = self;
-        format!("{number} {bus} {answer} | {answer}")
+fn numbers(words: [&str; 5]) -> Option<[u8; 5]> {
+    let mut numbers = [0; 5];
+    for (number, word) in numbers.iter_mut().zip(words) {
+        *number = word.parse().ok()?;
     }
+    Some(numbers)
 }
 
 /// The records of a listing. One whose last line doesn't say how many it has was not understood.
 fn records_of(listing: &str) -> Result<Vec<Record<'_>>, String> {
     let lines = listing.lines().skip(1);
     let records: Vec<Record> = lines.map_while(Record::parse).collect();
-    let last = listing.lines().last();
+    let last = listing.lines().last().unwrap_or_default();
     let count = records.len();
-    if last == Some(&format!("records {count}")) {
+    if last == format!("records {count}") {
         Ok(records)
     } else {
-        let last = shown(last);
-        Err(format!("second: {count} lines of records, and last {last}"))
+        Err(format!(
+            "second: {count} lines of records, and last {last:?}"
+        ))
     }
 }
 
-/// Refuses an output in which a record has another line than it must, or in which the fronts don't end alike.
-/// The lines of the worked calls, which follow, are the same for every trace and not looked at.
-fn check(output: &str, records: &[Record]) -> Result<(), String> {
-    let mut lines = output.split('\n');
-    for record in records {
-        let line = lines.next();
-        if line != Some(&record.at_both_fronts()) {
-            let (number, line, second) = (record.number, shown(line), record.line);
-            return Err(format!(
-                "record {number}\n  program: {line}\n  second: {second:?}"
-            ));
+/// Refuses where a record was received with another answer than the listing says. What the program answers is
+/// compared with these responses.
+fn check_listed(script: &Script, responses: &[Vec<u8>]) -> Result<(), String> {
+    let calls = script.requests.iter().zip(responses);
+    let received = calls.filter(|call| call.0[0] == request::RECEIVE);
+    let answers: Vec<String> = received.map(|call| as_listed(call.1)).collect();
+    if answers == script.listed {
+        return Ok(());
+    }
+    let pairs = answers.iter().zip(&script.listed);
+    let place = pairs
+        .take_while(|(answer, listed)| answer == listed)
+        .count();
+    let (answer, listed) = (answers.get(place), script.listed.get(place));
+    Err(format!(
+        "record {}\n  second calls: {answer:?}\n  second listing: {listed:?}",
+        place + 1
+    ))
+}
+
+/// The answer of a response as a listing shows it: packets with their length.
+fn as_listed(response: &[u8]) -> String {
+    let words = answer(response);
+    match *response {
+        [1, high, low, ..] => {
+            let length = u16::from_be_bytes([high, low]);
+            words.replacen("packet", &format!("packet {length}"), 1)
         }
-    }
-    let parts = [
-        ("answers", records.len()),
-        ("slots", SLOTS),
-        ("store bytes", STORE_BYTES),
-    ];
-    for (part, all) in parts {
-        let line = lines.next();
-        let must = format!("{part} alike: {all} of {all}");
-        if line != Some(&must) {
-            let line = shown(line);
-            return Err(format!(
-                "after the last record\n  program: {line}\n  must be: {must:?}"
-            ));
-        }
-    }
-    Ok(())
-}
-
-fn shown(line: Option<&str>) -> String {
-    line.map_or("nothing".to_string(), |line| format!("{line:?}"))
-}
-
-/// An answer as it is counted: packets of all lengths together.
-fn without_length(answer: &str) -> String {
-    let words: Vec<&str> = answer.split(' ').collect();
-    match words[..] {
-        ["packet", _, ref broke @ ..] => [&["packet"], broke].concat().join(" "),
-        _ => answer.to_string(),
-    }
-}
-
-/// Counts what the output doesn't show.
-fn count_known(trace: &Trace, part: usize, tally: &mut Tally) {
-    if let Some(damage) = trace.damage {
-        tally.count(&format!("damage: {damage}"));
-    }
-    if part < MOST {
-        tally.count(SMALL_PARTS);
+        _ => words,
     }
 }
 
 #[cfg(test)]
 mod tests {
     use super::*;
+    use crate::trace::write_record;
 
     const LISTING: &str = "header\n1 B 0 6 0 0 1 0 2 8 kept\n2 A refused 3\n\
                            3 B 0 6 0 0 3 0 2 8 packet 8 broke\n4 stopped\nrecords 3\n";
 
-    const OUTPUT: &str = "1 B kept | kept\n2 A refused 3 | refused 3\n\
-                          3 B packet 8 broke | packet 8 broke\nanswers alike: 3 of 3\n\
-                          slots alike: 16 of 16\nstore bytes alike: 32768 of 32768\nextended\n";
-
-    fn found(output: &str) -> Result<(), String> {
-        check(output, &records_of(LISTING).unwrap())
+    /// A start and a single of one stream, an image that is no frame between them, and a damaged record.
+    fn trace() -> Trace {
+        let mut bytes = Vec::new();
+        let start = [0x88, 6, 0, 0x40, 0x10, 1, 2, 3, 4, 5, 6, 7, 8];
+        let single = [0x88, 6, 0, 0xC0, 0x10, 1, 2, 3, 4, 5, 6, 7, 8];
+        for (bus, image) in [
+            (1, &start[..]),
+            (0, &[0xC0, 6, 0, 0xC0, 0x10]),
+            (1, &single),
+        ] {
+            write_record(&mut bytes, bus, image).unwrap();
+        }
+        bytes.extend([0, 1]);
+        Trace {
+            bytes,
+            records: 3,
+            damage: Some("length 1"),
+            notes: Vec::new(),
+            lengths: [0; 14],
+        }
     }
 
     #[test]
     fn takes_lines_apart() {
-        let fields = |line| Record::parse(line).map(|r| (r.number, r.bus, r.answer));
-        let frame = "12 B 1 5 0 0 2 1 2 1 packet 9 broke";
-        assert_eq!(fields(frame), Some(("12", "B", "packet 9 broke")));
-        assert_eq!(fields("4 A refused 3"), Some(("4", "A", "refused 3")));
-        for line in ["4 stopped", "records 4", "", "4 A 1 5 0 0 2 1 2 1"] {
-            assert_eq!(fields(line), None, "{line}");
+        let parts = |line| Record::parse(line).map(|r| (r.bus, r.fields, r.answer));
+        let frame = "12 B 1 5 7 9 2 1 2 1 packet 9 broke";
+        let fields = Some([1, 5, 7, 9, 2]);
+        assert_eq!(parts(frame), Some((1, fields, "packet 9 broke")));
+        assert_eq!(parts("4 A refused 3"), Some((0, None, "refused 3")));
+        for line in [
+            "4 stopped",
+            "records 4",
+            "",
+            "4 A 1 5 0 0 2 1 2 1",
+            "4 C refused 3",
+            "4 A 1 5 0 0 2 1 x 1 kept",
+        ] {
+            assert_eq!(parts(line), None, "{line}");
         }
     }
 
@@ -234,58 +294,49 @@ mod tests {
     }
 
     #[test]
-    fn accepts_what_must_be_written() {
-        assert_eq!(found(OUTPUT), Ok(()));
+    fn opens_the_key_of_each_frame_and_receives_every_record() {
+        let script = script(&trace()).unwrap();
+        let open = vec![request::OPEN, 1, 0, 0, 6, 0, 0, 2];
+        let start = request::receive(1, &[0x88, 6, 0, 0x40, 0x10, 1, 2, 3, 4, 5, 6, 7, 8]);
+        assert_eq!(script.requests[..2], [vec![request::NEW, 0], vec![12, 1]]);
+        assert_eq!(script.requests[2..4], [open.clone(), start]);
+        assert_eq!(script.requests[4][..2], [request::RECEIVE, 0]);
+        assert_eq!(script.requests[5], open);
+        assert_eq!(script.requests[6][..2], [request::RECEIVE, 1]);
+        assert_eq!(script.requests[7..], [request::store(0, 32_768)]);
+        assert_eq!(script.listed, ["kept", "refused 3", "packet 8 broke"]);
     }
 
     #[test]
-    fn tells_the_record_and_what_each_said() {
-        let second = "\"1 B 0 6 0 0 1 0 2 8 kept\"";
-        for wrong in [
-            "1 A kept | kept",
-            "1 B filtered | kept",
-            "1 B kept | filtered",
-            "1 B kept | kept ",
-            "1 B kept",
+    fn refuses_a_trace_with_another_number_of_records() {
+        let mut trace = trace();
+        trace.records = 4;
+        assert!(script(&trace).is_err());
+    }
+
+    #[test]
+    fn tells_a_record_that_is_answered_otherwise() {
+        let mut script = script(&trace()).unwrap();
+        let responses = exchange::by_second(&script.requests, &[]).unwrap();
+        assert_eq!(check_listed(&script, &responses), Ok(()));
+        script.listed[2] = "packet 8".to_string();
+        let found = check_listed(&script, &responses).unwrap_err();
+        assert!(found.starts_with("record 3\n") && found.contains("packet 8 broke"));
+        script.listed.truncate(2);
+        let found = check_listed(&script, &responses).unwrap_err();
+        assert!(found.starts_with("record 3\n") && found.contains("None"));
+    }
+
+    #[test]
+    fn shows_answers_as_a_listing_does() {
+        for (response, shown) in [
+            ([1, 8, 0, 0], "packet 2048"),
+            ([1, 0, 9, 1], "packet 9 broke"),
+            ([2, 0, 0, 1], "kept broke"),
+            ([3, 0, 0, 0], "filtered"),
+            ([4, 0, 7, 0], "refused 7"),
         ] {
-            let output = OUTPUT.replacen("1 B kept | kept", wrong, 1);
-            let message = format!("record 1\n  program: {wrong:?}\n  second: {second}");
-            assert_eq!(found(&output), Err(message));
-        }
-        assert!(found("1 B kept | kept").unwrap_err().contains("nothing"));
-    }
-
-    #[test]
-    fn finds_too_few_and_too_many_records() {
-        let last = "3 B packet 8 broke | packet 8 broke\n";
-        let fewer = found(&OUTPUT.replace(last, "")).unwrap_err();
-        assert!(fewer.starts_with("record 3\n"));
-        let more = found(&OUTPUT.replace(last, &last.repeat(2))).unwrap_err();
-        assert!(more.starts_with("after the last record\n"));
-    }
-
-    #[test]
-    fn finds_fronts_that_do_not_end_alike() {
-        for (right, wrong) in [
-            ("answers alike: 3", "answers alike: 2"),
-            ("slots alike: 16", "slots alike: 15"),
-            ("store bytes alike: 32768", "store bytes alike: 32767"),
-            ("slots alike: 16 of 16\n", ""),
-        ] {
-            let message = found(&OUTPUT.replace(right, wrong)).unwrap_err();
-            assert!(message.contains("must be: "), "{wrong}");
-        }
-    }
-
-    #[test]
-    fn counts_packets_of_all_lengths_together() {
-        for (answer, counted) in [
-            ("packet 9", "packet"),
-            ("packet 2048 broke", "packet broke"),
-            ("kept broke", "kept broke"),
-            ("refused 7", "refused 7"),
-        ] {
-            assert_eq!(without_length(answer), counted);
+            assert_eq!(as_listed(&response), shown);
         }
     }
 }

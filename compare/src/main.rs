@@ -6,6 +6,7 @@ mod corrupt;
 mod exchange;
 mod frame;
 mod fronts;
+mod full;
 mod log;
 mod make;
 mod observe;
@@ -28,8 +29,9 @@ use traces::Programs;
 
 const USAGE: &str = "usage:
   compare traces LISTING COUNT SEED [--keep FILE] [--also COMMAND]
-  compare fronts FRONTS COUNT SEED [--keep FILE]
+  compare fronts CALLS COUNT SEED [--keep FILE]
   compare pieces CALLS
+  compare full CALLS
   compare calls CALLS COUNT SEED [--keep FILE]
   compare make N SEED >TRACE
   compare log <TRACE >LOG";
@@ -64,6 +66,7 @@ fn run(arguments: &[&str]) -> Result<(), String> {
         }
         _ if keep.is_some() || also.is_some() => Err(USAGE.to_string()),
         ["pieces", program] => pieces::compare(Path::new(program)),
+        ["full", program] => full::compare(Path::new(program)),
         ["make", records, seed] => {
             let made = make::make(number(records)?, number(seed)?, io::stdout().lock());
             made.map_err(|error| error.to_string())
@@ -103,13 +106,15 @@ mod tests {
 
     #[test]
     fn refuses_what_it_does_not_know() {
-        let wrong: [&[&str]; 7] = [
+        let wrong: [&[&str]; 9] = [
             &[],
             &["listing"],
             &["log", "--also", "x"],
             &["calls", "x", "1", "1", "--also", "x"],
             &["fronts", "x", "1", "1", "--also", "x"],
             &["fronts", "x", "1"],
+            &["full", "x", "1"],
+            &["full", "x", "--keep", "x"],
             &["traces", "x", "1", "1", "--keep"],
         ];
         for arguments in wrong {

@@ -64,7 +64,7 @@ fn names() -> Vec<String> {
 
 /// Every size up to the limit and two more, then some far over it.
 fn batches() -> impl Iterator<Item = (Format, usize)> {
-    const LARGE: [usize; 9] = [
+    const LARGE: [usize; 15] = [
         2_100,
         4_096,
         16_384,
@@ -74,6 +74,12 @@ fn batches() -> impl Iterator<Item = (Format, usize)> {
         0x7FFF_FFFF,
         0x8000_0000,
         0xFFFF_FFFF,
+        0x0001_0000_0000,
+        0x0001_0000_0008,
+        0x0001_0000_0000_0008,
+        0x7FFF_FFFF_FFFF_FFFF,
+        0x8000_0000_0000_0008,
+        0xFFFF_FFFF_FFFF_FFFF,
     ];
     FORMATS.into_iter().flat_map(|format| {
         let sizes = (0..=format.limit() + 2).chain(LARGE);
@@ -84,7 +90,7 @@ fn batches() -> impl Iterator<Item = (Format, usize)> {
 /// The requests for one size. A packet that no request can hold is only asked about.
 fn batch(format: Format, size: usize) -> Vec<Request> {
     let mut random = Random::of_item(SEED ^ u64::from(request::code(format)), size as u64);
-    let mut requests = vec![request::count(format, size as u32)];
+    let mut requests = vec![request::count(format, size as u64)];
     if size > 65_520 {
         return requests;
     }

@@ -1,7 +1,7 @@
 //! Runs a program with its input fed and its output taken at the same time, so that neither waits for the other.
 
 use std::io::{self, ErrorKind, Read, Write};
-use std::process::{Child, ChildStdin, ChildStdout, Command, ExitStatus, Stdio};
+use std::process::{Child, ChildStderr, ChildStdin, ChildStdout, Command, ExitStatus, Stdio};
 use std::sync::mpsc::{self, Receiver};
 use std::thread;
 use std::time::{Duration, Instant};
@@ -9,8 +9,12 @@ use std::time::{Duration, Instant};
 /// How long a run may take. A program that hangs must not hold up whoever runs it.
 const LIMIT: Duration = Duration::from_secs(60);
 
+/// How much is shown of what a program says on standard error.
+const SHOWN: u64 = 200;
+
 /// Runs the program: one thread feeds it while this one takes its output. A program that ends with
-/// another status than 0, or not at all, is an error, even if its output was taken as right.
+/// another status than 0, or not at all, or that says something on standard error, is an error, even if
+/// its output was taken as right.
 pub fn run<T>(
     command: &mut Command,
     feed: impl FnOnce(&mut ChildStdin) -> io::Result<()> + Send,
@@ -26,10 +30,10 @@ fn run_within<T>(
     take: impl FnOnce(&mut ChildStdout) -> Result<T, String>,
 ) -> Result<T, String> {
     let name = command.get_program().to_string_lossy().into_owned();
-    let (child, mut input, mut output) =
+    let (child, mut input, mut output, errors) =
         start(command).map_err(|error| format!("{name} can't be started: {error}"))?;
     let (stop, stops) = mpsc::channel();
-    let (fed, taken, end) = thread::scope(|scope| {
+    let (fed, taken, end, said) = thread::scope(|scope| {
         let stop_too = stop.clone();
         let feeder = scope.spawn(move || {
             let fed = feed(&mut input).or_else(unless_left);
@@ -39,6 +43,7 @@ fn run_within<T>(
             fed
         });
         let watcher = scope.spawn(move || watch(child, &stops, limit));
+        let listener = scope.spawn(move || listen(errors));
         let taken = take(&mut output);
         // The rest of the output is not wanted, and a program waiting to write it must not hold us up.
         drop(output);
@@ -48,8 +53,24 @@ fn run_within<T>(
         drop(stop);
         let fed = feeder.join().expect("the feeder doesn't panic");
         let end = watcher.join().expect("the watcher doesn't panic");
-        (fed, taken, end)
+        let said = listener.join().expect("the listener doesn't panic");
+        (fed, taken, end, said)
     });
+    let result = outcome(&name, fed, taken, end);
+    match (said.map_err(|error| format!("{name}: {error}"))?, result) {
+        (said, result) if said.is_empty() => result,
+        (said, Ok(_)) => Err(format!("{name} said: {said:?}")),
+        (said, Err(error)) => Err(format!("{error}\n  {name} said: {said:?}")),
+    }
+}
+
+/// What was taken, if nothing went wrong.
+fn outcome<T>(
+    name: &str,
+    fed: io::Result<()>,
+    taken: Result<T, String>,
+    end: io::Result<ExitStatus>,
+) -> Result<T, String> {
     let status = end.map_err(|error| format!("{name}: {error}"))?;
     fed.map_err(|error| format!("{name}: {error}"))?;
     let taken = taken?;
@@ -60,12 +81,21 @@ fn run_within<T>(
     }
 }
 
-fn start(command: &mut Command) -> io::Result<(Child, ChildStdin, ChildStdout)> {
+fn start(command: &mut Command) -> io::Result<(Child, ChildStdin, ChildStdout, ChildStderr)> {
     let piped = command.stdin(Stdio::piped()).stdout(Stdio::piped());
-    let mut child = piped.spawn()?;
+    let mut child = piped.stderr(Stdio::piped()).spawn()?;
     let input = child.stdin.take().expect("the input is piped");
     let output = child.stdout.take().expect("the output is piped");
-    Ok((child, input, output))
+    let errors = child.stderr.take().expect("the errors are piped");
+    Ok((child, input, output, errors))
+}
+
+/// Takes all that is said, so that a program that says much doesn't wait, and gives the first of it.
+fn listen(mut errors: impl Read) -> io::Result<String> {
+    let mut first = Vec::new();
+    errors.by_ref().take(SHOWN).read_to_end(&mut first)?;
+    io::copy(&mut errors, &mut io::sink())?;
+    Ok(String::from_utf8_lossy(&first).into_owned())
 }
 
 /// A program may stop reading early, at a damaged record.
@@ -154,6 +184,23 @@ mod tests {
         assert_eq!(output, Ok(Vec::new()));
         let output = run(&mut shell("exit 1"), |_| Ok(()), take_all);
         assert!(output.is_err());
+    }
+
+    #[test]
+    fn a_program_must_say_nothing() {
+        let run = |script: &str| run(&mut shell(script), |_| Ok(()), take_all);
+        let found = run("cat; echo oh >&2");
+        assert_eq!(found, Err("sh said: \"oh\\n\"".to_string()));
+        // It is told beside another error, too.
+        let found = run("echo oh >&2; exit 3").unwrap_err();
+        assert!(found.contains("ended with exit status: 3\n  sh said: \"oh\\n\""));
+    }
+
+    #[test]
+    fn a_program_that_says_much_does_not_wait() {
+        let mut command = shell("head -c 3000000 /dev/zero | tr '\\0' x >&2; cat");
+        let found = run(&mut command, |input| input.write_all(b"in"), take_all);
+        assert_eq!(found, Err(format!("sh said: {:?}", "x".repeat(200))));
     }
 
     #[test]

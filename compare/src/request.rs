@@ -14,6 +14,7 @@ pub const SLOT: u8 = 8;
 pub const LEND: u8 = 9;
 pub const STORE: u8 = 10;
 pub const FILL: u8 = 11;
+pub const FRONT: u8 = 12;
 
 /// The size of the bytes that both programs hold, of which a part is lent.
 pub const HELD: usize = 40_000;
@@ -63,7 +64,7 @@ pub fn read(slot: u8) -> Request {
     vec![READ, slot]
 }
 
-pub fn count(format: Format, size: u32) -> Request {
+pub fn count(format: Format, size: u64) -> Request {
     let mut request = vec![COUNT, code(format)];
     request.extend(size.to_be_bytes());
     request
@@ -105,8 +106,13 @@ pub fn store(from: usize, size: usize) -> Request {
     request
 }
 
-pub fn fill(seed: u8) -> Request {
-    vec![FILL, seed]
+pub fn fill(seed: u8, step: u8) -> Request {
+    vec![FILL, seed, step]
+}
+
+/// Which front receives from here on: the station itself (0), or the one over a lent table (1).
+pub fn front(number: u8) -> Request {
+    vec![FRONT, number]
 }
 
 /// The requests as they are fed to a program.
@@ -145,6 +151,7 @@ pub fn name(operation: u8) -> &'static str {
         LEND => "LEND",
         STORE => "STORE",
         FILL => "FILL",
+        FRONT => "FRONT",
         _ => "unknown",
     }
 }
@@ -186,14 +193,19 @@ mod tests {
             piece(&key, 9, 258, 13, &[5])[..],
             [7, 1, 1, 2, 1, 9, 246, 1, 2, 13, 5]
         );
-        assert_eq!(count(Format::Extended, 2049), [6, 0, 0, 0, 8, 1]);
+        assert_eq!(
+            count(Format::Extended, 2049),
+            [6, 0, 0, 0, 0, 0, 0, 0, 8, 1]
+        );
         assert_eq!(store(0, HELD), [10, 0, 0, 0x9C, 0x40]);
         assert_eq!(lend(FULL_STORE), [9, 0x80, 0]);
+        assert_eq!(fill(3, 5), [11, 3, 5]);
+        assert_eq!(front(1), [12, 1]);
     }
 
     #[test]
     fn encodes_and_splits() {
-        let requests = vec![new(Format::Standard), Vec::new(), fill(7)];
+        let requests = vec![new(Format::Standard), Vec::new(), fill(7, 1)];
         let bytes = encode(&requests);
         let mut rest = &bytes[..];
         for request in &requests {

@@ -5,17 +5,17 @@ use crate::random::Random;
 use crate::request::{self, Request, CLOSED, COLLECTING, DONE, FULL_STORE, HELD, IDLE};
 use crate::traffic::{Noise, Sizes, Traffic};
 
-/// The ways in which a slot is made unsound.
+/// The ways in which a slot is made unsound, with an image received while it is.
 pub const UNSOUND: [&str; 5] = [
-    "unsound: h of a collecting slot",
-    "unsound: h of a done slot",
-    "unsound: the same key twice",
-    "unsound: field or bus out of range",
-    "unsound: key of the other format",
+    "RECEIVE, unsound: h of a collecting slot",
+    "RECEIVE, unsound: h of a done slot",
+    "RECEIVE, unsound: the same key twice",
+    "RECEIVE, unsound: field or bus out of range",
+    "RECEIVE, unsound: key of the other format",
 ];
 pub const MALFORMED: &str = "malformed request";
 pub const CUT_SHORT: &str = "script that ends inside a request";
-pub const LENT_OTHER: &str = "store of another size lent";
+pub const LENT_OTHER: &str = "RECEIVE, store of another size lent";
 pub const WHOLE_STORE: &str = "all bytes asked for";
 
 /// A script and what the generator knows of it.
@@ -23,8 +23,18 @@ pub struct Script {
     pub requests: Vec<Request>,
     /// The beginning of a request that never comes whole.
     pub tail: Vec<u8>,
-    pub notes: Vec<(Format, &'static str)>,
+    pub notes: Vec<Note>,
 }
+
+/// Something in a script, with the format and the front that it was written for.
+pub struct Note {
+    pub format: Format,
+    pub front: u8,
+    pub what: &'static str,
+}
+
+/// Operations that neither program knows. The program knows some that the second one doesn't.
+const UNKNOWN: [u8; 5] = [0, 31, 32, 128, 255];
 
 /// Images in scripts are up to this long, two over the longest sound one.
 const LONGEST_IMAGE: usize = 15;
@@ -75,6 +85,8 @@ struct Writer {
     open: [Option<Key>; 16],
     /// False while no call changes what is open: a slot is unsound, or the station is not ours.
     sound: bool,
+    /// The front that receives.
+    front: u8,
     random: Random,
     script: Script,
 }
@@ -110,6 +122,7 @@ impl Writer {
             keys,
             open: [None; 16],
             sound: true,
+            front: 0,
             random,
             script: Script {
                 requests: Vec::new(),
@@ -123,18 +136,24 @@ impl Writer {
         self.script.requests.push(request);
     }
 
-    fn note(&mut self, note: &'static str) {
-        self.script.notes.push((self.format, note));
+    fn note(&mut self, what: &'static str) {
+        self.script.notes.push(Note {
+            format: self.format,
+            front: self.front,
+            what,
+        });
     }
 
     /// A new station and its first streams. A script in extended may go without the call.
     fn begin(&mut self) {
         if self.format == Format::Standard || self.random.chance(700) {
-            self.push(request::new(self.format));
+            self.new_station(self.format);
+        }
+        if self.random.chance(500) {
+            self.set_front(1);
         }
         if self.random.chance(800) {
-            let seed = self.random.byte();
-            self.push(request::fill(seed));
+            self.fill();
         }
         // A stream now and then stays closed, so that its frames are filtered.
         for key in self.keys.clone() {
@@ -142,6 +161,23 @@ impl Writer {
                 self.open_key(key);
             }
         }
+    }
+
+    /// A new station receives at front 0.
+    fn new_station(&mut self, format: Format) {
+        self.push(request::new(format));
+        self.front = 0;
+    }
+
+    fn set_front(&mut self, front: u8) {
+        self.push(request::front(front));
+        self.front = front;
+    }
+
+    /// Either front, also the one that is set.
+    fn any_front(&mut self) {
+        let front = self.random.pick(&[0, 1]);
+        self.set_front(front);
     }
 
     /// Everything is looked at once more.
@@ -176,7 +212,7 @@ impl Writer {
     }
 
     fn other_call(&mut self) {
-        match self.random.below(100) {
+        match self.random.below(110) {
             0..=17 => self.read(),
             18..=29 => self.open_some(),
             30..=38 => self.close(),
@@ -187,7 +223,8 @@ impl Writer {
             85..=90 => self.split(),
             91..=96 => self.malformed(),
             97 => self.renew(),
-            _ => self.fill(),
+            98 | 99 => self.fill(),
+            _ => self.any_front(),
         }
     }
 
@@ -279,7 +316,7 @@ impl Writer {
         }
     }
 
-    /// Makes a slot unsound, calls some calls, and makes the station sound again.
+    /// Makes a slot unsound, calls some calls, receiving among them, and makes the station sound again.
     fn unsound_slot(&mut self) {
         let place = self.random.below(16);
         let way = self.random.below(UNSOUND.len());
@@ -290,9 +327,10 @@ impl Writer {
         self.push(request::slot(place, kind, h, &key, spare));
         self.note(UNSOUND[way]);
         self.sound = false;
-        for _ in 0..self.random.within(1, 4) {
+        for _ in 0..self.random.within(0, 3) {
             self.any_call();
         }
+        self.receive();
         self.sound = true;
         let (kind, key) = match self.open[place] {
             Some(key) => (IDLE, key),
@@ -340,7 +378,7 @@ impl Writer {
         })
     }
 
-    /// Lends a store of another size for some calls.
+    /// Lends a store of another size for some calls, receiving among them.
     fn other_store(&mut self) {
         let any = self.random.within(0, HELD);
         let sizes = [0, FULL_STORE - 1, FULL_STORE + 1, HELD, FULL_STORE, any];
@@ -349,9 +387,10 @@ impl Writer {
         if size != FULL_STORE {
             self.note(LENT_OTHER);
         }
-        for _ in 0..self.random.within(1, 3) {
+        for _ in 0..self.random.within(0, 2) {
             self.any_call();
         }
+        self.receive();
         if self.random.chance(200) {
             self.unsound_slot();
         }
@@ -373,7 +412,7 @@ impl Writer {
     fn split(&mut self) {
         let format = self.random.pick(&[Format::Extended, Format::Standard]);
         let size = self.random.within(0, 60);
-        self.push(request::count(format, size as u32));
+        self.push(request::count(format, size as u64));
         let key = Key::any(format, &mut self.random);
         let k = self.random.within(0, 8) as u16;
         let room = self.random.within(0, 20) as u8;
@@ -385,12 +424,16 @@ impl Writer {
     /// A new station, now and then after one of the other format, on which no key of ours is open.
     fn renew(&mut self) {
         if self.random.chance(300) {
-            self.push(request::new(self.format.other()));
+            self.new_station(self.format.other());
+            self.any_front();
             self.sound = false;
             self.any_call();
             self.sound = true;
         }
-        self.push(request::new(self.format));
+        self.new_station(self.format);
+        if self.random.chance(500) {
+            self.set_front(1);
+        }
         self.open = [None; 16];
         for key in self.keys.clone() {
             self.open_key(key);
@@ -398,8 +441,8 @@ impl Writer {
     }
 
     fn fill(&mut self) {
-        let seed = self.random.byte();
-        self.push(request::fill(seed));
+        let (seed, step) = (self.random.byte(), self.random.byte());
+        self.push(request::fill(seed, step));
     }
 
     /// A request that the protocol rules out.
@@ -415,14 +458,15 @@ impl Writer {
             request::slot(place, CLOSED, 0, &key, 0),
             request::lend(FULL_STORE),
             request::store(0, 10),
-            request::fill(1),
+            request::fill(1, 1),
+            request::front(1 - self.front),
         ];
         let which = self.random.below(sound.len());
         let mut request = sound[which].clone();
         match self.random.below(4) {
             0 => request.push(0),
             1 => request.truncate(self.random.below(request.len())),
-            2 => request[0] = self.random.pick(&[0, 12, 13, 128, 255]),
+            2 => request[0] = self.random.pick(&UNKNOWN),
             _ => request = self.ruled_out(&key),
         }
         self.push(request);
@@ -431,18 +475,20 @@ impl Writer {
 
     /// A request of the right length with an argument that the protocol rules out.
     fn ruled_out(&mut self, key: &Key) -> Request {
+        // As a front it is ruled out, too.
         let bad_format = self.random.pick(&[2, 3, 128, 255]);
-        let mut request = match self.random.below(11) {
+        let mut request = match self.random.below(12) {
             0 => return vec![request::NEW, bad_format],
-            1 => return vec![request::COUNT, bad_format, 0, 0, 0, 9],
+            1 => return vec![request::COUNT, bad_format, 0, 0, 0, 0, 0, 0, 0, 9],
             2 => return request::slot(self.random.within(16, 255), IDLE, 0, key, 0),
             3 => return request::slot(0, self.random.within(4, 255) as u8, 8, key, 0),
             4 => return request::lend(self.random.within(HELD + 1, 65_535)),
             5 => return request::store(self.random.within(1, 65_535), HELD),
             6 => return vec![request::RECEIVE],
             7 => return request::piece(key, 0, 0, 13, &[])[..self.random.within(1, 9)].to_vec(),
-            8 => request::open(key, 0),
-            9 => request::slot(0, self.random.below(4) as u8, 8, key, 0),
+            8 => return request::front(bad_format),
+            9 => request::open(key, 0),
+            10 => request::slot(0, self.random.below(4) as u8, 8, key, 0),
             _ => request::piece(key, 0, 0, 13, &[1, 2, 3]),
         };
         let place = match request[0] {
@@ -484,7 +530,7 @@ mod tests {
             if script
                 .notes
                 .iter()
-                .any(|note| UNSOUND.contains(&note.1) || note.1 == MALFORMED)
+                .any(|note| UNSOUND.contains(&note.what) || note.what == MALFORMED)
             {
                 continue;
             }
@@ -498,6 +544,83 @@ mod tests {
             }
         }
         assert!(seen > 0);
+    }
+
+    #[test]
+    fn both_fronts_are_set_at_the_beginning_and_later() {
+        let (mut set, mut first) = ([0; 2], 0);
+        for number in 0..300 {
+            let script = Script::generate(9, number);
+            let fronts = script
+                .requests
+                .iter()
+                .filter_map(|request| match request[..] {
+                    [request::FRONT, front @ (0 | 1)] => Some(usize::from(front)),
+                    _ => None,
+                });
+            fronts.for_each(|front| set[front] += 1);
+            let head = &script.requests[..script.requests.len().min(2)];
+            first += usize::from(head.contains(&request::front(1)));
+        }
+        assert!(set[0] > 100 && set[1] > 300, "{set:?}");
+        assert!((100..200).contains(&first), "{first}");
+    }
+
+    #[test]
+    fn a_new_station_is_at_front_0() {
+        let profile = Profile::draw(&mut Random::new(1));
+        let mut writer = Writer::new(Format::Standard, &profile, Random::new(1));
+        writer.set_front(1);
+        writer.note(MALFORMED);
+        writer.new_station(Format::Standard);
+        writer.note(MALFORMED);
+        let fronts = writer.script.notes.iter().map(|note| note.front);
+        assert!(fronts.eq([1, 0]));
+    }
+
+    #[test]
+    fn unsound_slots_and_other_stores_meet_an_image() {
+        for number in 0..100 {
+            let profile = Profile::draw(&mut Random::new(number));
+            let mut writer = Writer::new(Format::Extended, &profile, Random::new(number));
+            let calls = |writer: &Writer| -> Vec<u8> {
+                let requests = writer.script.requests.iter();
+                requests.map(|request| request[0]).collect()
+            };
+            writer.unsound_slot();
+            let unsound = calls(&writer);
+            assert!(unsound.is_empty() || unsound.contains(&request::RECEIVE));
+            writer.script.requests.clear();
+            writer.other_store();
+            assert!(calls(&writer).contains(&request::RECEIVE));
+        }
+    }
+
+    #[test]
+    fn no_operation_of_the_protocol_is_taken_as_unknown() {
+        for operation in UNKNOWN {
+            assert!(!(1..=30).contains(&operation));
+        }
+    }
+
+    #[test]
+    fn malformed_requests_have_empty_responses() {
+        let mut lengths = [false; 2];
+        for number in 0..2000 {
+            let profile = Profile::draw(&mut Random::new(number));
+            let mut writer = Writer::new(Format::Standard, &profile, Random::new(number));
+            writer.malformed();
+            let requests = writer.script.requests;
+            let responses = crate::exchange::by_second(&requests, &[]).unwrap();
+            assert_eq!(responses, [[]], "{requests:?}");
+            match requests[0][..] {
+                [request::FRONT] => lengths[0] = true,
+                [request::FRONT, 2] => lengths[1] = true,
+                _ => {}
+            }
+        }
+        // A front that isn't given, and the first that there isn't.
+        assert_eq!(lengths, [true; 2]);
     }
 
     #[test]
@@ -515,6 +638,7 @@ mod tests {
                 request::LEND => from(1) > 40_000,
                 request::STORE => u32::from(from(1)) + u32::from(from(3)) > 40_000,
                 request::RECEIVE => request.len() == 1,
+                request::FRONT => request[1] > 1,
                 _ => request.len() < 10 || request[1] > 1,
             };
             assert!(ruled_out, "{request:?}");

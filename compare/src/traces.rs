@@ -205,7 +205,7 @@ fn count_way(way: &Way, tally: &mut Tally) {
 }
 
 /// Writes a trace that was found to differ to a file, and says so.
-pub fn keep_trace(file: &Path, bytes: &[u8]) -> String {
+fn keep_trace(file: &Path, bytes: &[u8]) -> String {
     match fs::write(file, bytes) {
         Ok(()) => format!("\n  the trace is in {}", file.display()),
         Err(error) => format!("\n  the trace can't be written: {error}"),

@@ -21,6 +21,7 @@ const SLOT: u8 = 8;
 const LEND: u8 = 9;
 const STORE: u8 = 10;
 const FILL: u8 = 11;
+const FRONT: u8 = 12;
 
 /// The bytes of which a part is lent as the store.
 const BYTES_SIZE: usize = 40_000;
@@ -38,14 +39,28 @@ pub fn calls(input: impl Read, output: impl Write) -> io::Result<()> {
     let mut bench = Bench::new();
     let mut request = vec![0; usize::from(u16::MAX)];
     let mut response = Vec::new();
-    while let Some(request) = read_request(&mut input, &mut request) {
+    loop {
+        // Whoever waits for these responses before asking on must get them.
+        if !begins_with_request(input.buffer()) {
+            output.flush()?;
+        }
+        let Some(request) = read_request(&mut input, &mut request) else {
+            return output.flush();
+        };
         response.clear();
         // A request that is none changes nothing and writes nothing.
         let _ = bench.respond(request, &mut response);
         output.write_all(&two_bytes(response.len()))?;
         output.write_all(&response)?;
     }
-    output.flush()
+}
+
+/// Whether a whole request stands at the head of these bytes.
+fn begins_with_request(bytes: &[u8]) -> bool {
+    match bytes {
+        [high, low, rest @ ..] => rest.len() >= number(*high, *low),
+        _ => false,
+    }
 }
 
 /// Reads a whole request into the buffer, without its length.
@@ -90,9 +105,9 @@ impl Bench {
             (CLOSE, &[slot]) => self.close(slot, response),
             (RECEIVE, [bus, image @ ..]) => self.receive(*bus, image, response),
             (READ, &[slot]) => self.read(slot, response),
-            (COUNT, &[format, a, b, c, d]) => {
-                let size = u32::from_be_bytes([a, b, c, d]) as usize;
-                put_value(piece_count(format_of(format)?, size), response);
+            (COUNT, &[format, ref size @ ..]) => {
+                let size = u64::from_be_bytes(size.try_into().ok()?);
+                put_count(format_of(format)?, size, response);
             }
             (PIECE, &[format, a, b, c, d, e, k1, k0, room, ref packet @ ..]) => {
                 let fields = fields_of(format, [a, b, c, d, e])?;
@@ -108,7 +123,9 @@ impl Bench {
                 let (from, size) = (number(from1, from0), number(size1, size0));
                 response.extend_from_slice(self.bytes.get(from..from + size)?);
             }
-            (FILL, &[seed]) => self.fill(seed, response),
+            (FILL, &[seed, step]) => self.fill(seed, step, response),
+            // Both fronts answer alike, so there is one here and nothing to change.
+            (FRONT, &[0 | 1]) => put_value(Ok(0), response),
             _ => return None,
         }
         Some(())
@@ -166,9 +183,11 @@ impl Bench {
         Some(())
     }
 
-    fn fill(&mut self, seed: u8, response: &mut Vec<u8>) {
-        for (i, byte) in self.bytes.iter_mut().enumerate() {
-            *byte = seed.wrapping_add(i as u8);
+    fn fill(&mut self, seed: u8, step: u8, response: &mut Vec<u8>) {
+        let mut next = seed;
+        for byte in &mut self.bytes {
+            *byte = next;
+            next = next.wrapping_add(step);
         }
         put_value(Ok(0), response);
     }
@@ -221,6 +240,13 @@ fn slot_of(kind: u8, held: usize, key: Key) -> Option<Slot> {
         _ => return None,
     };
     Some(Slot::Open { key, state })
+}
+
+/// Appends how many pieces a packet takes. A size that is no number here is
+/// over every limit, as the largest that is one.
+fn put_count(format: Format, size: u64, response: &mut Vec<u8>) {
+    let size = usize::try_from(size).unwrap_or(usize::MAX);
+    put_value(piece_count(format, size), response);
 }
 
 /// Appends the answer of a piece call and the whole output lent to it.
@@ -293,6 +319,7 @@ fn slot_bytes(slot: &Slot) -> [u8; 10] {
 #[cfg(test)]
 mod tests {
     use super::*;
+    use std::cell::{Cell, RefCell};
 
     /// The responses to requests, each given without its length.
     fn run(requests: &[&[u8]]) -> Vec<Vec<u8>> {
@@ -386,7 +413,7 @@ mod tests {
     fn new_forgets_everything() {
         let responses = run(&[
             OPEN_5,
-            &[FILL, 3],
+            &[FILL, 3, 1],
             &[LEND, 0, 1],
             &[NEW, 0],
             &[STORE, 0, 0, 0, 2],
@@ -399,18 +426,21 @@ mod tests {
 
     #[test]
     fn piece_counts() {
-        let count = |format, size: u32| {
-            let [a, b, c, d] = size.to_be_bytes();
-            last(&[&[COUNT, format, a, b, c, d]])
+        let count = |format, size: u64| {
+            let mut request = vec![COUNT, format];
+            request.extend(size.to_be_bytes());
+            last(&[&request])
         };
         assert_eq!(count(0, 17), [5, 0, 3, 0]);
         assert_eq!(count(1, 14), [5, 0, 2, 0]);
         assert_eq!(count(0, 2048), [5, 1, 0, 0]);
         assert_eq!(count(0, 2049), [4, 0, 10, 0]);
         assert_eq!(count(1, 1793), [4, 0, 10, 0]);
-        assert_eq!(count(1, u32::MAX), [4, 0, 10, 0]);
-        // An extended packet of 65,537 bytes is not one of 1 byte.
-        assert_eq!(count(0, 65_537), [4, 0, 10, 0]);
+        assert_eq!(count(1, u64::MAX), [4, 0, 10, 0]);
+        // An extended packet of 65,537 bytes is not one of 1 byte, and so on.
+        for bit in [16, 32, 48, 63] {
+            assert_eq!(count(0, (1 << bit) + 1), [4, 0, 10, 0]);
+        }
     }
 
     #[test]
@@ -466,7 +496,7 @@ mod tests {
         let [over1, over0] = two_bytes(40_001);
         let responses = run(&[
             OPEN_5,
-            &[FILL, 250],
+            &[FILL, 250, 1],
             &[LEND, n1, n0],
             RECEIVE_5,
             &[LEND, over1, over0],
@@ -488,7 +518,7 @@ mod tests {
     fn store_within_its_bounds() {
         let store = |from, size| {
             let ([a, b], [c, d]) = (two_bytes(from), two_bytes(size));
-            last(&[&[FILL, 0], &[STORE, a, b, c, d]])
+            last(&[&[FILL, 0, 1], &[STORE, a, b, c, d]])
         };
         assert_eq!(store(0, 40_000).len(), 40_000);
         assert_eq!(store(39_999, 1), [(39_999 % 256) as u8]);
@@ -499,11 +529,37 @@ mod tests {
     }
 
     #[test]
+    fn fill_by_steps() {
+        let filled = |seed, step| last(&[&[FILL, seed, step], &[STORE, 0, 0, 0, 4]]);
+        assert_eq!(filled(7, 0), [7, 7, 7, 7]);
+        assert_eq!(filled(254, 1), [254, 255, 0, 1]);
+        assert_eq!(filled(3, 100), [3, 103, 203, 47]);
+        assert_eq!(filled(1, 255), [1, 0, 255, 254]);
+        // The last byte is 39,999 steps on, which is 63 modulo 256.
+        let [from1, from0] = two_bytes(39_999);
+        let last_byte = last(&[&[FILL, 5, 3], &[STORE, from1, from0, 0, 1]]);
+        assert_eq!(last_byte, [5 + 3 * 63]);
+    }
+
+    #[test]
+    fn both_fronts_answer_alike() {
+        for front in [0, 1] {
+            let responses = run(&[OPEN_5, &[FRONT, front], RECEIVE_5, &[READ, 0]]);
+            assert_eq!(responses[1], [5, 0, 0, 0]);
+            let done = with_slots([1, 0, 1, 0], &SLOTS_OF_DONE_5);
+            assert_eq!(responses[2], done);
+            assert_eq!(responses[3], [5, 0, 1, 0, 7]);
+        }
+    }
+
+    #[test]
     fn what_is_no_request_has_an_empty_response() {
-        let none: [&[u8]; 22] = [
+        let none: [&[u8]; 29] = [
             &[],
             &[0],
-            &[12],
+            &[13],
+            &[30],
+            &[31],
             &[255, 0],
             &[NEW],
             &[NEW, 2],
@@ -515,14 +571,19 @@ mod tests {
             &[CLOSE, 0, 0],
             &[RECEIVE],
             &[READ],
-            &[COUNT, 2, 0, 0, 0, 1],
-            &[COUNT, 0, 0, 0, 1],
+            &[COUNT, 2, 0, 0, 0, 0, 0, 0, 0, 1],
+            &[COUNT, 0, 0, 0, 0, 1],
+            &[COUNT],
             &[PIECE, 0, 0, 0, 0, 0, 0, 0, 0],
             &[PIECE, 2, 0, 0, 0, 0, 0, 0, 0, 9],
             &[SLOT, 16, 1, 0, 0, 0, 0, 0, 0, 0, 0, 0],
             &[SLOT, 0, 4, 0, 0, 0, 0, 0, 0, 0, 0, 0],
             &[SLOT, 0, 0, 0, 0, 0, 2, 0, 0, 0, 0, 0],
-            &[FILL],
+            &[FILL, 0],
+            &[FILL, 0, 0, 0],
+            &[FRONT],
+            &[FRONT, 2],
+            &[FRONT, 0, 0],
         ];
         for request in none {
             let responses = run(&[OPEN_5, request, RECEIVE_5]);
@@ -530,6 +591,50 @@ mod tests {
             let after = with_slots([1, 0, 1, 0], &SLOTS_OF_DONE_5);
             assert_eq!(responses[2], after, "{request:?}");
         }
+    }
+
+    /// An input that gives one part a read and notes how many bytes of
+    /// output there were before it.
+    struct Parts<'a> {
+        parts: std::slice::Iter<'a, &'a [u8]>,
+        written: &'a Cell<usize>,
+        before: &'a RefCell<Vec<usize>>,
+    }
+
+    impl Read for Parts<'_> {
+        fn read(&mut self, buffer: &mut [u8]) -> io::Result<usize> {
+            self.before.borrow_mut().push(self.written.get());
+            let part = self.parts.next().copied().unwrap_or_default();
+            buffer[..part.len()].copy_from_slice(part);
+            Ok(part.len())
+        }
+    }
+
+    struct Counted<'a>(&'a Cell<usize>);
+
+    impl Write for Counted<'_> {
+        fn write(&mut self, bytes: &[u8]) -> io::Result<usize> {
+            self.0.set(self.0.get() + bytes.len());
+            Ok(bytes.len())
+        }
+
+        fn flush(&mut self) -> io::Result<()> {
+            Ok(())
+        }
+    }
+
+    #[test]
+    fn responses_do_not_wait_for_more_input() {
+        // Requests with a response of two bytes each: two, a half and a half, one and a part.
+        let parts: [&[u8]; 4] = [&[0, 0, 0, 1, 0], &[0, 2, 0], &[0], &[0, 0, 0]];
+        let (written, before) = (Cell::new(0), RefCell::default());
+        let input = Parts {
+            parts: parts.iter(),
+            written: &written,
+            before: &before,
+        };
+        calls(input, Counted(&written)).unwrap();
+        assert_eq!(before.into_inner(), [0, 4, 4, 6, 8]);
     }
 
     #[test]

@@ -39,7 +39,7 @@ records 1
 
 #[test]
 fn calls_of_one_request() {
-    let (code, output, errors) = run(&["calls"], &[0, 6, 6, 0, 0, 0, 0, 17]);
+    let (code, output, errors) = run(&["calls"], &[0, 10, 6, 0, 0, 0, 0, 0, 0, 0, 0, 17]);
     assert_eq!(code, Some(0));
     assert_eq!(output, [0, 4, 5, 0, 3, 0]);
     assert!(errors.is_empty());

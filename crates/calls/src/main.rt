@@ -1,11 +1,15 @@
 // Reads requests from standard input, calls the library, and writes a response to each to standard
 // output: compare/PROTOCOL.md.
 mod bench;
+mod images;
+mod listings;
+mod masters;
 mod request;
 mod response;
+mod stations;
+mod watches;
 
 use bench::Bench;
-use format::Format;
 ghost use mathlib.Core.Path.{_≡_};
 ghost use Prim.Native.Nat.{_≤_};
 ghost use lib.ListN.{length};
@@ -20,6 +24,12 @@ struct Work {
 }
 
 // Between two reads: how many bytes of the input are not worked off yet, and whether to go on.
+struct Held {
+    held: usize,
+    going: bool,
+}
+
+// The same, with the bench.
 struct Session {
     bench: Bench,
     held: usize,
@@ -84,14 +94,20 @@ fn end_of(output: &[u8], start: usize, size: usize) -> usize {
     start + size
 }
 
-fn stopped(work: Work) -> Work {
-    let bench = work.bench;
-    Work {
-        bench: bench,
-        at: work.at,
-        filled: work.filled,
-        going: false,
+// At most that many.
+fn within(n: usize, most: usize) -> usize
+    ensures { λ r. ⌜ r ≤ most ⌝ }
+{
+    if n > most {
+        return 0;
     }
+    n
+}
+
+fn stopped(work: Work) -> Work {
+    let mut next = work;
+    next.going = false;
+    next
 }
 
 // Works off one request, if one is whole and the output has room for any response: the longest is
@@ -102,10 +118,7 @@ fn step(work: Work, bytes: &mut [u8], input: &[u8], output: &mut [u8]) -> Work {
     let start = start_of(output, filled, bytes.len());
     let from = span.from;
     let to = span.to;
-    if to == 0 {
-        return stopped(work);
-    }
-    if start == 0 {
+    if (to == 0) | (start == 0) {
         return stopped(work);
     }
     let bench = work.bench;
@@ -138,51 +151,53 @@ fn work_off(bench: Bench, bytes: &mut [u8], input: &[u8], output: &mut [u8]) -> 
     work
 }
 
-fn ended(bench: Bench) -> Session {
-    Session {
-        bench: bench,
+// The end of a session.
+fn ended() -> Held {
+    Held {
         held: 0,
         going: false,
     }
 }
 
-// Works off what is held, writes the responses and reads on. Where a whole request is left, as the
+// Writes the responses, and reads on after what is left. Where a whole request is left, as the
 // output had no room, it does not read: its response must not wait for more input.
-fn turn(session: Session, bytes: &mut [u8], input: &mut [u8], output: &mut [u8]) -> Session {
-    let bench = session.bench;
-    let held = session.held;
-    if held > input.len() {
-        return ended(bench);
+fn go_on(input: &mut [u8], at: usize, held: usize, output: &[u8], filled: usize) -> Held {
+    if !pipes::write_out(output, filled) {
+        return ended();
     }
-    let work = work_off(bench, bytes, &input[0..held], output);
-    let bench = work.bench;
-    if !pipes::write_out(output, work.filled) {
-        return ended(bench);
-    }
-    let left = pipes::keep(input, work.at, held);
-    if left > input.len() {
-        return ended(bench);
-    }
+    let left = pipes::keep(input, at, held);
     let span = request_at(&input[0..left], 0);
     if span.to > 0 {
-        return Session {
-            bench: bench,
+        return Held {
             held: left,
             going: true,
         };
     }
     let more = pipes::read_on(input, left);
-    Session {
-        bench: bench,
+    Held {
         held: more,
         going: left < more,
+    }
+}
+
+// Works off what is held of the input, writes the responses and reads on.
+fn turn(session: Session, bytes: &mut [u8], input: &mut [u8], output: &mut [u8]) -> Session {
+    let bench = session.bench;
+    let held = within(session.held, input.len());
+    let work = work_off(bench, bytes, &input[0..held], output);
+    let next = work.bench;
+    let left = go_on(input, work.at, held, output, work.filled);
+    Session {
+        bench: next,
+        held: left.held,
+        going: left.going,
     }
 }
 
 // A proved loop has to end, and nothing says that the input does: the turns are counted down from
 // a number that no run uses up.
 fn serve(bytes: &mut [u8], input: &mut [u8], output: &mut [u8]) {
-    let bench = bench::new(Format::Extended);
+    let bench = bench::new();
     let mut session = Session {
         bench: bench,
         held: 0,

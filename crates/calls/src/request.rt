@@ -1,10 +1,16 @@
-// The arguments of a request: bytes, numbers, formats, fields and keys.
+// The arguments of a request: bytes, numbers, formats, fields, keys and lines. A byte past the end
+// is 0, which spares the proofs of all places; the length of a request is tested before.
 use format::Fields;
+use format::Flag;
 use format::Format;
+use format::Refusal;
+use master::Kind;
 use slot::Key;
+use stream::Answer;
+use trace::Line;
 ghost use Prim.Native.Nat.{_<_};
 
-// The byte at a place, 0 past the end.
+// The byte at a place.
 pub fn byte(args: &[u8], at: usize) -> u8 {
     if at < args.len() {
         return args[at];
@@ -22,6 +28,22 @@ pub fn number(args: &[u8], at: usize) -> usize
     let high = byte(args, at) as usize;
     let low = byte(args, at + 1) as usize;
     high * 256 + low
+}
+
+// The four-byte number at a place.
+pub fn word(args: &[u8], at: u16) -> u32 {
+    let at = at as usize;
+    let high = number(args, at) as u32;
+    let low = number(args, at + 2) as u32;
+    high * 65536 + low
+}
+
+// The eight-byte number at a place.
+pub fn long(args: &[u8], at: u8) -> u64 {
+    let at = at as u16;
+    let high = word(args, at) as u64;
+    let low = word(args, at + 4) as u64;
+    high * 4294967296 + low
 }
 
 // The format of a byte that is at most 1.
@@ -59,5 +81,101 @@ pub fn key(args: &[u8], at: u8) -> Key {
     Key {
         bus: bus,
         fields: fields,
+    }
+}
+
+// The kind of exchange of a byte that is 1 to 3.
+pub fn kind_of(code: u8) -> Kind {
+    match code {
+        1 => Kind::Poll,
+        2 => Kind::DataBlock,
+        _ => Kind::Command,
+    }
+}
+
+fn flag_of(code: u8) -> Flag {
+    match code {
+        0 => Flag::Middle,
+        1 => Flag::Start,
+        2 => Flag::End,
+        _ => Flag::Single,
+    }
+}
+
+// The refusal of a place in document 01's table, 1 to 21.
+pub fn refusal_of(place: u8) -> Refusal {
+    match place {
+        1 => Refusal::Length,
+        2 => Refusal::Form,
+        3 => Refusal::Remote,
+        4 => Refusal::Count,
+        5 => Refusal::Piece,
+        6 => Refusal::Orphan,
+        7 => Refusal::Step,
+        8 => Refusal::Long,
+        9 => Refusal::Field,
+        10 => Refusal::Size,
+        11 => Refusal::Index,
+        12 => Refusal::Room,
+        13 => Refusal::Store,
+        14 => Refusal::Taken,
+        15 => Refusal::Full,
+        16 => Refusal::Closed,
+        17 => Refusal::NoPacket,
+        18 => Refusal::Busy,
+        19 => Refusal::Idle,
+        20 => Refusal::NotAwaited,
+        _ => Refusal::State,
+    }
+}
+
+// The answer in a line: ten bytes from place 20 on, of which the number's lowest names a refusal.
+fn answer_in(args: &[u8]) -> Answer {
+    let broke = byte(args, 29) == 1;
+    match byte(args, 20) {
+        1 => Answer::Packet {
+            length: long(args, 21) as usize,
+            broke: broke,
+        },
+        2 => Answer::Kept { broke: broke },
+        3 => Answer::Filtered,
+        _ => Answer::Refused(refusal_of(byte(args, 28))),
+    }
+}
+
+fn frame_in(args: &[u8]) -> Line {
+    let fields = fields(args, 12, format_of(byte(args, 11)));
+    let flag = flag_of(byte(args, 17));
+    let answer = answer_in(args);
+    Line::Frame {
+        ordinal: long(args, 2),
+        bus: byte(args, 10),
+        fields: fields,
+        flag: flag,
+        number: byte(args, 18),
+        count: byte(args, 19),
+        answer: answer,
+    }
+}
+
+// The line of a request to write one: after the room its kind, 0 to 4, and what it shows.
+pub fn line_in(args: &[u8]) -> Line {
+    match byte(args, 1) {
+        0 => Line::Header,
+        1 => frame_in(args),
+        2 => {
+            let name = refusal_of(byte(args, 28));
+            Line::Refused {
+                ordinal: long(args, 2),
+                bus: byte(args, 10),
+                name: name,
+            }
+        }
+        3 => Line::Stopped {
+            ordinal: long(args, 2),
+        },
+        _ => Line::Records {
+            count: long(args, 2),
+        },
     }
 }

@@ -1,9 +1,12 @@
-// Writing responses: answers and slots. A byte past the output's end is left out, which spares the
-// proofs of all places; it never happens, as the output has room for the longest response.
+// Writing responses: answers, slots and numbers. A byte past the output's end is left out, which
+// spares the proofs of all places; it never happens, as the output has room for the longest response.
+use copying::copy_in;
 use format::Fields;
 use format::Outcome;
+use format::Refusal;
 use slot::Occupancy;
 use slot::Slot;
+use slot::Stream;
 use station::Station;
 use stream::Answer;
 use stream::Progress;
@@ -15,82 +18,71 @@ pub const ANSWER: usize = 4;
 // The size of an answer with the sixteen slots, of ten bytes each.
 pub const WITH_SLOTS: usize = 164;
 
-fn put(out: &mut [u8], at: usize, byte: u8) {
-    if at < out.len() {
-        out[at] = byte;
+// Each byte is a step more than the one before it, modulo 256.
+pub fn fill(bytes: &mut [u8], first: u8, step: u8) {
+    let mut next = first;
+    let mut i = 0;
+    while i < bytes.len() {
+        bytes[i] = next;
+        next = std::num::wrapping_add_u8(next, step);
+        i += 1;
     }
 }
 
+// The two lowest bytes of a number.
 pub fn put_number(out: &mut [u8], at: usize, n: usize) {
-    if at < out.len() {
-        put(out, at, (n / 256 % 256) as u8);
-        put(out, at + 1, (n % 256) as u8);
-    }
+    let bytes = [(n / 256 % 256) as u8, (n % 256) as u8];
+    copy_in(out, at, &bytes);
+}
+
+// The four bytes of a number.
+pub fn put_word(out: &mut [u8], at: u16, n: u32) {
+    let at = at as usize;
+    put_number(out, at, (n / 65536) as usize);
+    put_number(out, at + 2, (n % 65536) as usize);
+}
+
+// The eight bytes of a number.
+pub fn put_long(out: &mut [u8], at: u8, n: u64) {
+    let at = at as u16;
+    put_word(out, at, (n / 4294967296) as u32);
+    put_word(out, at + 4, (n % 4294967296) as u32);
 }
 
 // The four bytes of an answer.
-fn put_answer(out: &mut [u8], kind: u8, n: usize, broke: bool) {
-    put(out, 0, kind);
-    put_number(out, 1, n);
-    put(out, 3, broke as u8);
+pub fn put_answer(out: &mut [u8], kind: u8, n: usize, more: u8) {
+    let bytes = [kind, (n / 256 % 256) as u8, (n % 256) as u8, more];
+    copy_in(out, 0, &bytes);
+}
+
+pub fn put_refused(out: &mut [u8], name: Refusal) {
+    put_answer(out, 4, name.number() as usize, 0);
 }
 
 // The answer of a call that gives a number or refuses.
 pub fn put_outcome(out: &mut [u8], outcome: Outcome) {
     match outcome {
-        Outcome::Value(n) => put_answer(out, 5, n, false),
-        Outcome::Refused(name) => put_answer(out, 4, name.number() as usize, false),
+        Outcome::Value(n) => put_value(out, n),
+        Outcome::Refused(name) => put_refused(out, name),
     }
 }
 
 pub fn put_value(out: &mut [u8], n: usize) {
-    put_answer(out, 5, n, false);
+    put_answer(out, 5, n, 0);
 }
 
 // The answer of receiving.
 pub fn put_received(out: &mut [u8], answer: Answer) {
     match answer {
-        Answer::Packet { length, broke } => put_answer(out, 1, length, broke),
-        Answer::Kept { broke } => put_answer(out, 2, 0, broke),
-        Answer::Filtered => put_answer(out, 3, 0, false),
-        Answer::Refused(name) => put_answer(out, 4, name.number() as usize, false),
+        Answer::Packet { length, broke } => put_answer(out, 1, length, broke as u8),
+        Answer::Kept { broke } => put_answer(out, 2, 0, broke as u8),
+        Answer::Filtered => put_answer(out, 3, 0, 0),
+        Answer::Refused(name) => put_refused(out, name),
     }
-}
-
-fn put_progress(out: &mut [u8], at: usize, progress: Progress)
-    requires { ⌜ at < 65536 ⌝ }
-{
-    match progress {
-        Progress::Idle => {
-            put(out, at, 1);
-            put_number(out, at + 1, 0);
-        }
-        Progress::Collecting(h) => {
-            put(out, at, 2);
-            put_number(out, at + 1, h as usize);
-        }
-        Progress::Done(h) => {
-            put(out, at, 3);
-            put_number(out, at + 1, h as usize);
-        }
-    }
-}
-
-fn put_six(out: &mut [u8], at: usize, a: u8, b: u8, c: u8, d: u8, e: u8, f: u8)
-    requires { ⌜ at < 65536 ⌝ }
-{
-    put(out, at, a);
-    put(out, at + 1, b);
-    put(out, at + 2, c);
-    put(out, at + 3, d);
-    put(out, at + 4, e);
-    put(out, at + 5, f);
 }
 
 // The format, and the five fields, of which the last two are 0 in standard.
-fn put_fields(out: &mut [u8], at: usize, fields: Fields)
-    requires { ⌜ at < 65536 ⌝ }
-{
+fn field_bytes(fields: Fields) -> [u8; 6] {
     match fields {
         Fields::Extended {
             priority,
@@ -98,13 +90,38 @@ fn put_fields(out: &mut [u8], at: usize, fields: Fields)
             group,
             destination,
             function,
-        } => put_six(out, at, 0, priority, source, group, destination, function),
+        } => [0, priority, source, group, destination, function],
         Fields::Standard {
             priority,
             address,
             side,
-        } => put_six(out, at, 1, priority, address, side, 0, 0),
+        } => [1, priority, address, side, 0, 0],
     }
+}
+
+pub fn put_fields(out: &mut [u8], at: usize, fields: Fields) {
+    let bytes = field_bytes(fields);
+    copy_in(out, at, &bytes);
+}
+
+// The four bytes of a stream's progress and its key's bus.
+fn progress_bytes(progress: Progress, bus: u8) -> [u8; 4] {
+    match progress {
+        Progress::Idle => [1, 0, 0, bus],
+        Progress::Collecting(h) => [2, (h / 256) as u8, (h % 256) as u8, bus],
+        Progress::Done(h) => [3, (h / 256) as u8, (h % 256) as u8, bus],
+    }
+}
+
+fn put_stream(out: &mut [u8], at: usize, stream: Stream)
+    requires { ⌜ at < 65000 ⌝ }
+{
+    let key = stream.key;
+    let progress = stream.progress;
+    let fields = key.fields;
+    let bytes = progress_bytes(progress, key.bus);
+    copy_in(out, at, &bytes);
+    put_fields(out, at + 4, fields);
 }
 
 fn put_slot(out: &mut [u8], at: usize, slot: Slot)
@@ -113,18 +130,10 @@ fn put_slot(out: &mut [u8], at: usize, slot: Slot)
     let occupancy = slot.occupancy;
     match occupancy {
         Occupancy::Closed => {
-            put_number(out, at, 0);
-            put_number(out, at + 2, 0);
-            put_six(out, at + 4, 0, 0, 0, 0, 0, 0);
+            let bytes = [0u8; 10];
+            copy_in(out, at, &bytes);
         }
-        Occupancy::Open(stream) => {
-            let key = stream.key;
-            let progress = stream.progress;
-            let fields = key.fields;
-            put_progress(out, at, progress);
-            put(out, at + 3, key.bus);
-            put_fields(out, at + 4, fields);
-        }
+        Occupancy::Open(stream) => put_stream(out, at, stream),
     }
 }
 

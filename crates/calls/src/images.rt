@@ -1,0 +1,225 @@
+// Calls that hold no state: images judged, packets split, refusals numbered, identifiers filtered,
+// records read and lines written.
+use crate::request::byte;
+use crate::request::fields;
+use crate::request::format_of;
+use crate::request::line_in;
+use crate::request::long;
+use crate::request::number;
+use crate::request::refusal_of;
+use crate::response::ANSWER;
+use crate::response::fill;
+use crate::response::put_answer;
+use crate::response::put_fields;
+use crate::response::put_outcome;
+use crate::response::put_refused;
+use crate::response::put_value;
+use filter::Filter;
+use filter::Pair;
+use frame::Head;
+use frame::Verdict;
+use trace::Entry;
+
+const COUNT: u8 = 6;
+
+const PIECE: u8 = 7;
+
+const JUDGE: u8 = 13;
+
+const NUMBER: u8 = 14;
+
+const FILTER: u8 = 15;
+
+const ROW: u8 = 16;
+
+const RECORD: u8 = 17;
+
+const LINE: u8 = 18;
+
+// The most identifiers of one request.
+const IDENTIFIERS: usize = 32768;
+
+// The size of a request to write a line.
+const LINE_SIZE: usize = 30;
+
+fn count(args: &[u8], out: &mut [u8]) -> usize {
+    if args.len() != 9 {
+        return 0;
+    }
+    let code = byte(args, 0);
+    if code > 1 {
+        return 0;
+    }
+    put_outcome(
+        out,
+        packet::piece_count(format_of(code), long(args, 1) as usize),
+    );
+    ANSWER
+}
+
+// The output lent to the call is the part of the response after the answer.
+fn piece(args: &[u8], out: &mut [u8]) -> usize {
+    if args.len() < 9 {
+        return 0;
+    }
+    let code = byte(args, 0);
+    if code > 1 {
+        return 0;
+    }
+    let fields = fields(args, 1, format_of(code));
+    let k = number(args, 6);
+    let size = ANSWER + byte(args, 8) as usize;
+    if size > out.len() {
+        return 0;
+    }
+    fill(&mut out[ANSWER..size], 0xEE, 0);
+    let answer = packet::write_piece(fields, &args[9..], k, &mut out[ANSWER..size]);
+    put_outcome(out, answer);
+    size
+}
+
+// Where the packet bytes begin, then format, fields, flag and number.
+fn put_head(out: &mut [u8], head: Head) -> usize {
+    let fields = head.fields;
+    let flag = head.flag;
+    let ends = [flag.bits(), head.number];
+    put_value(out, head.start);
+    put_fields(out, ANSWER, fields);
+    copying::copy_in(out, 10, &ends);
+    12
+}
+
+fn judge(args: &[u8], out: &mut [u8]) -> usize {
+    if args.len() < 1 {
+        return 0;
+    }
+    let code = byte(args, 0);
+    if code > 1 {
+        return 0;
+    }
+    match frame::judge(format_of(code), &args[1..]) {
+        Verdict::Sound(head) => put_head(out, head),
+        Verdict::Refused(name) => {
+            put_refused(out, name);
+            ANSWER
+        }
+    }
+}
+
+fn refusal(args: &[u8], out: &mut [u8]) -> usize {
+    if args.len() != 1 {
+        return 0;
+    }
+    let place = byte(args, 0);
+    if place < 1 {
+        return 0;
+    }
+    if place > 21 {
+        return 0;
+    }
+    put_refused(out, refusal_of(place));
+    ANSWER
+}
+
+// What a pair accepts, or the first of its filters alone.
+fn accepts(pair: Pair, alone: bool, id: u16) -> bool {
+    if alone {
+        let filter = pair.first;
+        return filter.accepts(id);
+    }
+    pair.accepts(id)
+}
+
+// A byte for each identifier from the one given.
+fn accepted(bytes: &mut [u8], pair: Pair, alone: bool, first: u16) {
+    let mut id = first;
+    let mut i = 0;
+    while i < bytes.len() {
+        bytes[i] = accepts(pair, alone, id) as u8;
+        id = std::num::wrapping_add_u16(id, 1);
+        i += 1;
+    }
+}
+
+// From and how many stand at a place of the request.
+fn put_accepted(out: &mut [u8], pair: Pair, alone: bool, args: &[u8], at: u8) -> usize {
+    let at = at as usize;
+    let n = number(args, at + 2);
+    if n > IDENTIFIERS {
+        return 0;
+    }
+    if n > out.len() {
+        return 0;
+    }
+    accepted(&mut out[0..n], pair, alone, number(args, at) as u16);
+    n
+}
+
+fn filter(args: &[u8], out: &mut [u8]) -> usize {
+    if args.len() != 8 {
+        return 0;
+    }
+    let filter = Filter {
+        code: number(args, 0) as u16,
+        mask: number(args, 2) as u16,
+    };
+    let pair = Pair {
+        first: filter,
+        second: filter,
+    };
+    put_accepted(out, pair, true, args, 4)
+}
+
+fn row(args: &[u8], out: &mut [u8]) -> usize {
+    if args.len() != 12 {
+        return 0;
+    }
+    let mut row = [0u8; 8];
+    copying::copy_in(&mut row, 0, &args[0..8]);
+    put_accepted(out, Pair::from_row(row), false, args, 8)
+}
+
+fn record(args: &[u8], out: &mut [u8]) -> usize {
+    match trace::read_record(args) {
+        Entry::Record { bus, size } => put_answer(out, 9, size, bus),
+        Entry::Damaged => put_answer(out, 10, 0, 0),
+        Entry::Cut => put_answer(out, 11, 0, 0),
+        Entry::End => put_answer(out, 12, 0, 0),
+    }
+    ANSWER
+}
+
+fn line(args: &[u8], out: &mut [u8]) -> usize {
+    if args.len() != LINE_SIZE {
+        return 0;
+    }
+    if byte(args, 1) > 4 {
+        return 0;
+    }
+    if byte(args, 11) > 1 {
+        return 0;
+    }
+    let size = ANSWER + byte(args, 0) as usize;
+    if size > out.len() {
+        return 0;
+    }
+    fill(&mut out[ANSWER..size], b'-', 0);
+    let answer = trace::write_line(line_in(args), &mut out[ANSWER..size]);
+    put_outcome(out, answer);
+    size
+}
+
+// Writes the response, and answers its size.
+pub fn respond(operation: u8, args: &[u8], out: &mut [u8]) -> usize {
+    match operation {
+        COUNT => count(args, out),
+        PIECE => piece(args, out),
+        JUDGE => judge(args, out),
+        NUMBER => refusal(args, out),
+        FILTER => filter(args, out),
+        ROW => row(args, out),
+        RECORD => record(args, out),
+        LINE => line(args, out),
+        _ => 0,
+    }
+}

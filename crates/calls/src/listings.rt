@@ -1,0 +1,170 @@
+// A listing of a trace, in the slots of the station.
+use crate::request::byte;
+use crate::request::long;
+use crate::request::number;
+use crate::response::ANSWER;
+use crate::response::fill;
+use crate::response::put_answer;
+use crate::response::put_long;
+use crate::response::put_number;
+use crate::response::put_outcome;
+use crate::response::put_refused;
+use crate::response::put_value;
+use crate::stations::Desk;
+use crate::stations::Done;
+use crate::stations::kept;
+use lister::Listed;
+use lister::Listing;
+use lister::Why;
+
+const LISTING: u8 = 19;
+
+const LISTED: u8 = 20;
+
+const LIST: u8 = 21;
+
+const END: u8 = 22;
+
+// The size of an answer with the count.
+const WITH_COUNT: usize = 12;
+
+// The same with the bytes used and written.
+const WITH_SIZES: usize = 16;
+
+// The longest output of one request.
+const ROOM: usize = 4096;
+
+// The desk with the slots and the count of a listing.
+fn with_listing(desk: Desk, listing: Listing) -> Desk {
+    let slots = listing.slots;
+    let mut station = desk.station;
+    station.slots = slots;
+    let mut next = desk;
+    next.station = station;
+    next.count = listing.count;
+    next
+}
+
+fn listing_of(desk: Desk) -> Listing {
+    let station = desk.station;
+    let slots = station.slots;
+    Listing {
+        slots: slots,
+        count: desk.count,
+    }
+}
+
+// A new listing, or one by hand with that count.
+fn set(desk: Desk, listing: Listing, out: &mut [u8]) -> Done {
+    put_value(out, 0);
+    put_long(out, 4, listing.count);
+    kept(with_listing(desk, listing), WITH_COUNT)
+}
+
+fn begin(desk: Desk, args: &[u8], out: &mut [u8]) -> Done {
+    if args.len() != 0 {
+        return kept(desk, 0);
+    }
+    set(desk, Listing::new(), out)
+}
+
+fn count(desk: Desk, args: &[u8], out: &mut [u8]) -> Done {
+    if args.len() != 8 {
+        return kept(desk, 0);
+    }
+    let mut listing = listing_of(desk);
+    listing.count = long(args, 0);
+    set(desk, listing, out)
+}
+
+fn put_why(out: &mut [u8], why: Why) {
+    match why {
+        Why::Input => put_answer(out, 13, 0, 0),
+        Why::Room => put_answer(out, 14, 0, 0),
+        Why::Damaged => put_answer(out, 10, 0, 0),
+        Why::Refused(name) => put_refused(out, name),
+    }
+}
+
+// Why the call went no further, and how far it came.
+fn put_listed(out: &mut [u8], listed: Listed) {
+    let why = listed.why;
+    let next = listed.listing;
+    put_why(out, why);
+    put_long(out, 4, next.count);
+    put_number(out, 12, listed.used);
+    put_number(out, 14, listed.written);
+}
+
+fn list_over(desk: Desk, store: &mut [u8], input: &[u8], output: &mut [u8]) -> Listed {
+    fill(output, b'-', 0);
+    let listing = listing_of(desk);
+    listing.list(store, input, output)
+}
+
+// The response to a part listed: its output stands in it already.
+fn advanced(desk: Desk, listed: Listed, out: &mut [u8], size: usize) -> Done {
+    put_listed(out, listed);
+    let next = listed.listing;
+    kept(with_listing(desk, next), size)
+}
+
+// The output lent to the call is the part of the response after what it hands back.
+fn list(desk: Desk, bytes: &mut [u8], args: &[u8], out: &mut [u8]) -> Done {
+    let lent = desk.lent;
+    let room = number(args, 0);
+    let size = WITH_SIZES + room;
+    if args.len() < 2 {
+        return kept(desk, 0);
+    }
+    if room > ROOM {
+        return kept(desk, 0);
+    }
+    if size > out.len() {
+        return kept(desk, 0);
+    }
+    if lent > bytes.len() {
+        return kept(desk, 0);
+    }
+    let listed = list_over(
+        desk,
+        &mut bytes[0..lent],
+        &args[2..],
+        &mut out[WITH_SIZES..size],
+    );
+    advanced(desk, listed, out, size)
+}
+
+fn end(desk: Desk, args: &[u8], out: &mut [u8]) -> usize {
+    let room = number(args, 1);
+    let size = WITH_COUNT + room;
+    if args.len() != 3 {
+        return 0;
+    }
+    if byte(args, 0) > 1 {
+        return 0;
+    }
+    if room > ROOM {
+        return 0;
+    }
+    if size > out.len() {
+        return 0;
+    }
+    fill(&mut out[WITH_COUNT..size], b'-', 0);
+    let listing = listing_of(desk);
+    let answer = listing.end(byte(args, 0) == 1, &mut out[WITH_COUNT..size]);
+    put_outcome(out, answer);
+    put_long(out, 4, desk.count);
+    size
+}
+
+// Does what a request on a listing asks for, and writes the response.
+pub fn respond(desk: Desk, bytes: &mut [u8], operation: u8, args: &[u8], out: &mut [u8]) -> Done {
+    match operation {
+        LISTING => begin(desk, args, out),
+        LISTED => count(desk, args, out),
+        LIST => list(desk, bytes, args, out),
+        END => kept(desk, end(desk, args, out)),
+        _ => kept(desk, 0),
+    }
+}

@@ -1,0 +1,180 @@
+// A master and its exchange.
+use crate::request::byte;
+use crate::request::kind_of;
+use crate::response::put_answer;
+use crate::response::put_refused;
+use crate::response::put_value;
+use master::Activity;
+use master::Answer;
+use master::Exchange;
+use master::Kind;
+use master::Master;
+use master::Moved;
+
+const MASTER: u8 = 23;
+
+const EXCHANGE: u8 = 24;
+
+const START: u8 = 25;
+
+const REPLY: u8 = 26;
+
+const TIMEOUT: u8 = 27;
+
+// Where the chosen buses stand in a response, after the answer and the exchange.
+const CHOSEN: usize = 7;
+
+// The size of an answer with the master.
+const WITH_MASTER: usize = 71;
+
+// The master after a request, and the size of the response.
+pub struct Done {
+    pub master: Master,
+    pub size: usize,
+}
+
+// A request that is none.
+fn ignored(master: Master) -> Done {
+    Done {
+        master: master,
+        size: 0,
+    }
+}
+
+fn kind_code(kind: Kind) -> u8 {
+    match kind {
+        Kind::Poll => 1,
+        Kind::DataBlock => 2,
+        Kind::Command => 3,
+    }
+}
+
+fn put_exchange(out: &mut [u8], kind: u8, node: u8, sends: u8) {
+    let bytes = [kind, node, sends];
+    copying::copy_in(out, 4, &bytes);
+}
+
+fn put_activity(out: &mut [u8], activity: Activity) {
+    match activity {
+        Activity::Idle => put_exchange(out, 0, 0, 0),
+        Activity::UnderWay(exchange) => {
+            let kind = exchange.kind;
+            put_exchange(out, kind_code(kind), exchange.node, exchange.sends);
+        }
+    }
+}
+
+// The response to a call: the answer, which is written already, and the master.
+fn changed(master: Master, out: &mut [u8]) -> Done {
+    let chosen = master.chosen;
+    let activity = master.activity;
+    put_activity(out, activity);
+    copying::copy_in(out, CHOSEN, &chosen);
+    Done {
+        master: master,
+        size: WITH_MASTER,
+    }
+}
+
+fn put_moved(out: &mut [u8], answer: Answer) {
+    match answer {
+        Answer::Send(bus) => put_answer(out, 6, bus as usize, 0),
+        Answer::Done => put_answer(out, 7, 0, 0),
+        Answer::GaveUp => put_answer(out, 8, 0, 0),
+        Answer::Refused(name) => put_refused(out, name),
+    }
+}
+
+// What a call answers and hands back.
+fn moved(moved: Moved, out: &mut [u8]) -> Done {
+    let answer = moved.answer;
+    let next = moved.master;
+    put_moved(out, answer);
+    changed(next, out)
+}
+
+// A new master.
+fn renew(master: Master, args: &[u8], out: &mut [u8]) -> Done {
+    if args.len() != 0 {
+        return ignored(master);
+    }
+    put_value(out, 0);
+    changed(Master::new(), out)
+}
+
+fn activity_of(kind: u8, node: u8, sends: u8) -> Activity {
+    if kind == 0 {
+        return Activity::Idle;
+    }
+    let exchange = Exchange {
+        kind: kind_of(kind),
+        node: node,
+        sends: sends,
+    };
+    Activity::UnderWay(exchange)
+}
+
+// A master by hand: A chosen for every node but one, and an exchange or none.
+fn by_hand(master: Master, args: &[u8], out: &mut [u8]) -> Done {
+    if args.len() != 5 {
+        return ignored(master);
+    }
+    let node = byte(args, 0) as usize;
+    let kind = byte(args, 2);
+    if node > 63 {
+        return ignored(master);
+    }
+    if kind > 3 {
+        return ignored(master);
+    }
+    let mut chosen = [0u8; 64];
+    chosen[node] = byte(args, 1);
+    let activity = activity_of(kind, byte(args, 3), byte(args, 4));
+    put_value(out, 0);
+    let made = Master {
+        chosen: chosen,
+        activity: activity,
+    };
+    changed(made, out)
+}
+
+fn start(master: Master, args: &[u8], out: &mut [u8]) -> Done {
+    let kind = byte(args, 0);
+    if args.len() != 2 {
+        return ignored(master);
+    }
+    if kind < 1 {
+        return ignored(master);
+    }
+    if kind > 3 {
+        return ignored(master);
+    }
+    moved(master.start(kind_of(kind), byte(args, 1)), out)
+}
+
+fn reply(master: Master, args: &[u8], out: &mut [u8]) -> Done {
+    if args.len() != 3 {
+        return ignored(master);
+    }
+    let answered = master.reply(byte(args, 0), byte(args, 1), byte(args, 2));
+    moved(answered, out)
+}
+
+fn timeout(master: Master, args: &[u8], out: &mut [u8]) -> Done {
+    if args.len() != 0 {
+        return ignored(master);
+    }
+    moved(master.timeout(), out)
+}
+
+// Does what a request on a master asks for, and writes the response.
+pub fn respond(master: Master, operation: u8, args: &[u8], out: &mut [u8]) -> Done {
+    match operation {
+        MASTER => renew(master, args, out),
+        EXCHANGE => by_hand(master, args, out),
+        START => start(master, args, out),
+        REPLY => reply(master, args, out),
+        TIMEOUT => timeout(master, args, out),
+        _ => ignored(master),
+    }
+}

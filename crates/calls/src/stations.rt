@@ -1,0 +1,305 @@
+// A station and what is lent to it: opening, closing, receiving at either front, reading, and slots
+// and bytes set by hand.
+use crate::request::byte;
+use crate::request::format_of;
+use crate::request::key;
+use crate::request::number;
+use crate::response::ANSWER;
+use crate::response::WITH_SLOTS;
+use crate::response::fill;
+use crate::response::put_outcome;
+use crate::response::put_received;
+use crate::response::put_slots;
+use crate::response::put_value;
+use copying::copy_in;
+use format::Format;
+use slot::Key;
+use slot::Occupancy;
+use slot::Slot;
+use slot::Stream;
+use station::Changed;
+use station::Received;
+use station::Station;
+use station::Store;
+use stream::Progress;
+
+// The station; how much of the bytes is lent to its calls as their store; the front that receives: 0
+// the station itself, 1 a lent table of its slots; and how many records a listing in its slots has
+// listed.
+pub struct Desk {
+    pub station: Station,
+    pub lent: usize,
+    pub front: u8,
+    pub count: u64,
+}
+
+// The desk after a request, and the size of the response.
+pub struct Done {
+    pub desk: Desk,
+    pub size: usize,
+}
+
+const NEW: u8 = 1;
+
+const OPEN: u8 = 2;
+
+const CLOSE: u8 = 3;
+
+const RECEIVE: u8 = 4;
+
+const READ: u8 = 5;
+
+const SLOT: u8 = 8;
+
+const LEND: u8 = 9;
+
+const STORE: u8 = 10;
+
+const FILL: u8 = 11;
+
+const FRONT: u8 = 12;
+
+pub fn new(format: Format, count: u64) -> Desk {
+    let station = Station::new(format);
+    Desk {
+        station: station,
+        lent: Store::SIZE,
+        front: 0,
+        count: count,
+    }
+}
+
+// A request that leaves the desk as it is.
+pub fn kept(desk: Desk, size: usize) -> Done {
+    Done {
+        desk: desk,
+        size: size,
+    }
+}
+
+// The response to a call that hands a station back: the answer, which is written already, and its
+// slots.
+fn changed(desk: Desk, station: Station, out: &mut [u8]) -> Done {
+    let mut next = desk;
+    next.station = station;
+    put_slots(out, station);
+    kept(next, WITH_SLOTS)
+}
+
+// The response to opening or closing.
+fn put_changed(desk: Desk, r: Changed, out: &mut [u8]) -> Done {
+    let answer = r.answer;
+    let next = r.station;
+    put_outcome(out, answer);
+    changed(desk, next, out)
+}
+
+fn renew(desk: Desk, bytes: &mut [u8], args: &[u8], out: &mut [u8]) -> Done {
+    if args.len() != 1 {
+        return kept(desk, 0);
+    }
+    let code = byte(args, 0);
+    if code > 1 {
+        return kept(desk, 0);
+    }
+    fill(bytes, 0, 0);
+    put_value(out, 0);
+    let next = new(format_of(code), desk.count);
+    let station = next.station;
+    changed(next, station, out)
+}
+
+fn open(desk: Desk, args: &[u8], out: &mut [u8]) -> Done {
+    if args.len() != 7 {
+        return kept(desk, 0);
+    }
+    if byte(args, 1) > 1 {
+        return kept(desk, 0);
+    }
+    let station = desk.station;
+    put_changed(desk, station.open(key(args, 0)), out)
+}
+
+fn close(desk: Desk, args: &[u8], out: &mut [u8]) -> Done {
+    if args.len() != 1 {
+        return kept(desk, 0);
+    }
+    let station = desk.station;
+    put_changed(desk, station.close(byte(args, 0) as usize), out)
+}
+
+// Over a lent table of the station's slots.
+fn receive_over_table(station: Station, store: &mut [u8], bus: u8, image: &[u8]) -> Received {
+    let mut next = station;
+    let format = station.format;
+    let slots = station.slots;
+    let lent = table::receive_by_value(format, slots, store, bus, image);
+    let answer = lent.answer;
+    let table = lent.table;
+    next.slots = table;
+    Received {
+        station: next,
+        answer: answer,
+    }
+}
+
+// At the front that is set.
+fn received(desk: Desk, store: &mut [u8], bus: u8, image: &[u8]) -> Received {
+    let station = desk.station;
+    if desk.front == 0 {
+        return station.receive(store, bus, image);
+    }
+    receive_over_table(station, store, bus, image)
+}
+
+fn receive(desk: Desk, bytes: &mut [u8], args: &[u8], out: &mut [u8]) -> Done {
+    let lent = desk.lent;
+    if args.len() < 1 {
+        return kept(desk, 0);
+    }
+    if lent > bytes.len() {
+        return kept(desk, 0);
+    }
+    let r = received(desk, &mut bytes[0..lent], args[0], &args[1..]);
+    let answer = r.answer;
+    put_received(out, answer);
+    let next = r.station;
+    changed(desk, next, out)
+}
+
+// A slot by hand: its kind is 0 to 3.
+fn slot_of(kind: u8, h: u16, key: Key) -> Slot {
+    if kind == 0 {
+        return Slot {
+            occupancy: Occupancy::Closed,
+        };
+    }
+    let progress = match kind {
+        1 => Progress::Idle,
+        2 => Progress::Collecting(h),
+        _ => Progress::Done(h),
+    };
+    let stream = Stream {
+        key: key,
+        progress: progress,
+    };
+    Slot {
+        occupancy: Occupancy::Open(stream),
+    }
+}
+
+fn set_slot(desk: Desk, args: &[u8], out: &mut [u8]) -> Done {
+    if args.len() != 11 {
+        return kept(desk, 0);
+    }
+    let i = byte(args, 0) as usize;
+    let kind = byte(args, 1);
+    if i > 15 {
+        return kept(desk, 0);
+    }
+    if kind > 3 {
+        return kept(desk, 0);
+    }
+    if byte(args, 5) > 1 {
+        return kept(desk, 0);
+    }
+    let mut station = desk.station;
+    let slot = slot_of(kind, number(args, 2) as u16, key(args, 4));
+    station.slots[i] = slot;
+    put_value(out, 0);
+    changed(desk, station, out)
+}
+
+fn lend(desk: Desk, bytes: &[u8], args: &[u8], out: &mut [u8]) -> Done {
+    if args.len() != 2 {
+        return kept(desk, 0);
+    }
+    let n = number(args, 0);
+    if n > bytes.len() {
+        return kept(desk, 0);
+    }
+    put_value(out, n);
+    let mut next = desk;
+    next.lent = n;
+    kept(next, ANSWER)
+}
+
+fn set_front(desk: Desk, args: &[u8], out: &mut [u8]) -> Done {
+    if args.len() != 1 {
+        return kept(desk, 0);
+    }
+    let front = byte(args, 0);
+    if front > 1 {
+        return kept(desk, 0);
+    }
+    put_value(out, 0);
+    let mut next = desk;
+    next.front = front;
+    kept(next, ANSWER)
+}
+
+// Both calls: the length, and the part itself.
+fn read(desk: Desk, bytes: &[u8], args: &[u8], out: &mut [u8]) -> usize {
+    let lent = desk.lent;
+    if args.len() != 1 {
+        return 0;
+    }
+    if lent > bytes.len() {
+        return 0;
+    }
+    let i = byte(args, 0) as usize;
+    let station = desk.station;
+    let store = &bytes[0..lent];
+    put_outcome(out, station.read_length(store, i));
+    let part = station.read(store, i);
+    copy_in(out, ANSWER, part);
+    ANSWER + part.len()
+}
+
+// A part of all bytes, lent or not.
+fn stored(bytes: &[u8], args: &[u8], out: &mut [u8]) -> usize {
+    if args.len() != 4 {
+        return 0;
+    }
+    let from = number(args, 0);
+    let size = number(args, 2);
+    let to = from + size;
+    if to > bytes.len() {
+        return 0;
+    }
+    copy_in(out, 0, &bytes[from..to]);
+    size
+}
+
+fn refill(bytes: &mut [u8], args: &[u8], out: &mut [u8]) -> usize {
+    if args.len() != 2 {
+        return 0;
+    }
+    fill(bytes, byte(args, 0), byte(args, 1));
+    put_value(out, 0);
+    ANSWER
+}
+
+// The operations that leave the desk as it is.
+fn ask(desk: Desk, bytes: &mut [u8], operation: u8, args: &[u8], out: &mut [u8]) -> usize {
+    match operation {
+        READ => read(desk, bytes, args, out),
+        STORE => stored(bytes, args, out),
+        FILL => refill(bytes, args, out),
+        _ => 0,
+    }
+}
+
+// Does what a request on a station asks for, and writes the response.
+pub fn respond(desk: Desk, bytes: &mut [u8], operation: u8, args: &[u8], out: &mut [u8]) -> Done {
+    match operation {
+        NEW => renew(desk, bytes, args, out),
+        OPEN => open(desk, args, out),
+        CLOSE => close(desk, args, out),
+        RECEIVE => receive(desk, bytes, args, out),
+        SLOT => set_slot(desk, args, out),
+        LEND => lend(desk, bytes, args, out),
+        FRONT => set_front(desk, args, out),
+        _ => kept(desk, ask(desk, bytes, operation, args, out)),
+    }
+}
