@@ -49,8 +49,17 @@ pub fn put_long(out: &mut [u8], at: u8, n: u64) {
     put_word(out, at + 4, (n % 4294967296) as u32);
 }
 
+// A number that has no room in two bytes, which no call gives, is shown as the largest that has.
+fn shown(n: usize) -> usize {
+    if n > 65535 {
+        return 65535;
+    }
+    n
+}
+
 // The four bytes of an answer.
 pub fn put_answer(out: &mut [u8], kind: u8, n: usize, more: u8) {
+    let n = shown(n);
     let bytes = [kind, (n / 256 % 256) as u8, (n % 256) as u8, more];
     copy_in(out, 0, &bytes);
 }
