@@ -3,6 +3,13 @@
 use crate::images;
 use crate::listings;
 use crate::masters;
+use crate::operations::COUNT;
+use crate::operations::JUDGE;
+use crate::operations::LISTING;
+use crate::operations::MASTER;
+use crate::operations::PIECE;
+use crate::operations::WATCH;
+use crate::operations::is_request;
 use crate::stations;
 use crate::stations::Desk;
 use crate::watches;
@@ -21,20 +28,6 @@ pub struct Done {
     pub bench: Bench,
     pub size: usize,
 }
-
-// The first operation of each part.
-const IMAGES: u8 = 13;
-
-const LISTINGS: u8 = 19;
-
-const MASTERS: u8 = 23;
-
-const WATCHES: u8 = 28;
-
-// Splitting stands among the operations on a station.
-const COUNT: u8 = 6;
-
-const PIECE: u8 = 7;
 
 pub fn new() -> Bench {
     let desk = stations::new(Format::Extended, 0);
@@ -75,6 +68,7 @@ fn with_watch(bench: Bench, done: watches::Done) -> Done {
     kept(next, done.size)
 }
 
+// Whether an operation keeps nothing between requests. Splitting stands among those on a station.
 fn is_image(operation: u8) -> bool {
     if operation == COUNT {
         return true;
@@ -82,20 +76,20 @@ fn is_image(operation: u8) -> bool {
     if operation == PIECE {
         return true;
     }
-    (IMAGES <= operation) & (operation < LISTINGS)
+    (JUDGE <= operation) & (operation < LISTING)
 }
 
 // What works on the station and what is lent to it.
 fn change_desk(bench: Bench, bytes: &mut [u8], operation: u8, args: &[u8], out: &mut [u8]) -> Done {
     let desk = bench.desk;
-    if operation < IMAGES {
+    if operation < JUDGE {
         return with_desk(bench, stations::respond(desk, bytes, operation, args, out));
     }
     with_desk(bench, listings::respond(desk, bytes, operation, args, out))
 }
 
 fn change_other(bench: Bench, operation: u8, args: &[u8], out: &mut [u8]) -> Done {
-    if operation < WATCHES {
+    if operation < WATCH {
         let master = bench.master;
         return with_master(bench, masters::respond(master, operation, args, out));
     }
@@ -103,17 +97,21 @@ fn change_other(bench: Bench, operation: u8, args: &[u8], out: &mut [u8]) -> Don
     with_watch(bench, watches::respond(watch, operation, args, out))
 }
 
-// Does what a request asks for, and writes the response.
+// Does what a request asks for, and writes the response. One that is none leaves all as it is, and
+// its response is empty.
 pub fn respond(bench: Bench, bytes: &mut [u8], request: &[u8], out: &mut [u8]) -> Done {
     if request.len() < 1 {
         return kept(bench, 0);
     }
     let operation = request[0];
     let args = &request[1..];
+    if !is_request(operation, args) {
+        return kept(bench, 0);
+    }
     if is_image(operation) {
         return kept(bench, images::respond(operation, args, out));
     }
-    if operation < MASTERS {
+    if operation < MASTER {
         return change_desk(bench, bytes, operation, args, out);
     }
     change_other(bench, operation, args, out)

@@ -1,12 +1,22 @@
 // Calls that hold no state: images judged, packets split, refusals numbered, identifiers filtered,
 // records read and lines written.
+use crate::operations::COUNT;
+use crate::operations::FILTER;
+use crate::operations::JUDGE;
+use crate::operations::LINE;
+use crate::operations::NUMBER;
+use crate::operations::PIECE;
+use crate::operations::RECORD;
+use crate::operations::ROW;
 use crate::request::byte;
 use crate::request::fields;
 use crate::request::format_of;
 use crate::request::line_in;
 use crate::request::long;
 use crate::request::number;
+use crate::request::part;
 use crate::request::refusal_of;
+use crate::request::rest;
 use crate::response::ANSWER;
 use crate::response::fill;
 use crate::response::put_answer;
@@ -20,60 +30,22 @@ use frame::Head;
 use frame::Verdict;
 use trace::Entry;
 
-const COUNT: u8 = 6;
-
-const PIECE: u8 = 7;
-
-const JUDGE: u8 = 13;
-
-const NUMBER: u8 = 14;
-
-const FILTER: u8 = 15;
-
-const ROW: u8 = 16;
-
-const RECORD: u8 = 17;
-
-const LINE: u8 = 18;
-
-// The most identifiers of one request.
-const IDENTIFIERS: usize = 32768;
-
-// The size of a request to write a line.
-const LINE_SIZE: usize = 30;
-
 fn count(args: &[u8], out: &mut [u8]) -> usize {
-    if args.len() != 9 {
-        return 0;
-    }
-    let code = byte(args, 0);
-    if code > 1 {
-        return 0;
-    }
-    put_outcome(
-        out,
-        packet::piece_count(format_of(code), long(args, 1) as usize),
-    );
+    let format = format_of(byte(args, 0));
+    put_outcome(out, packet::piece_count(format, long(args, 1) as usize));
     ANSWER
 }
 
 // The output lent to the call is the part of the response after the answer.
 fn piece(args: &[u8], out: &mut [u8]) -> usize {
-    if args.len() < 9 {
-        return 0;
-    }
-    let code = byte(args, 0);
-    if code > 1 {
-        return 0;
-    }
-    let fields = fields(args, 1, format_of(code));
-    let k = number(args, 6);
+    let fields = fields(args, 1, format_of(byte(args, 0)));
     let size = ANSWER + byte(args, 8) as usize;
     if size > out.len() {
         return 0;
     }
     fill(&mut out[ANSWER..size], 0xEE, 0);
-    let answer = packet::write_piece(fields, &args[9..], k, &mut out[ANSWER..size]);
+    let k = number(args, 6);
+    let answer = packet::write_piece(fields, rest(args, 9), k, &mut out[ANSWER..size]);
     put_outcome(out, answer);
     size
 }
@@ -90,14 +62,7 @@ fn put_head(out: &mut [u8], head: Head) -> usize {
 }
 
 fn judge(args: &[u8], out: &mut [u8]) -> usize {
-    if args.len() < 1 {
-        return 0;
-    }
-    let code = byte(args, 0);
-    if code > 1 {
-        return 0;
-    }
-    match frame::judge(format_of(code), &args[1..]) {
+    match frame::judge(format_of(byte(args, 0)), rest(args, 1)) {
         Verdict::Sound(head) => put_head(out, head),
         Verdict::Refused(name) => {
             put_refused(out, name);
@@ -107,17 +72,7 @@ fn judge(args: &[u8], out: &mut [u8]) -> usize {
 }
 
 fn refusal(args: &[u8], out: &mut [u8]) -> usize {
-    if args.len() != 1 {
-        return 0;
-    }
-    let place = byte(args, 0);
-    if place < 1 {
-        return 0;
-    }
-    if place > 21 {
-        return 0;
-    }
-    put_refused(out, refusal_of(place));
+    put_refused(out, refusal_of(byte(args, 0)));
     ANSWER
 }
 
@@ -145,9 +100,6 @@ fn accepted(bytes: &mut [u8], pair: Pair, alone: bool, first: u16) {
 fn put_accepted(out: &mut [u8], pair: Pair, alone: bool, args: &[u8], at: u8) -> usize {
     let at = at as usize;
     let n = number(args, at + 2);
-    if n > IDENTIFIERS {
-        return 0;
-    }
     if n > out.len() {
         return 0;
     }
@@ -156,9 +108,6 @@ fn put_accepted(out: &mut [u8], pair: Pair, alone: bool, args: &[u8], at: u8) ->
 }
 
 fn filter(args: &[u8], out: &mut [u8]) -> usize {
-    if args.len() != 8 {
-        return 0;
-    }
     let filter = Filter {
         code: number(args, 0) as u16,
         mask: number(args, 2) as u16,
@@ -171,11 +120,8 @@ fn filter(args: &[u8], out: &mut [u8]) -> usize {
 }
 
 fn row(args: &[u8], out: &mut [u8]) -> usize {
-    if args.len() != 12 {
-        return 0;
-    }
     let mut row = [0u8; 8];
-    copying::copy_in(&mut row, 0, &args[0..8]);
+    copying::copy_in(&mut row, 0, part(args, 0, 8));
     put_accepted(out, Pair::from_row(row), false, args, 8)
 }
 
@@ -190,15 +136,6 @@ fn record(args: &[u8], out: &mut [u8]) -> usize {
 }
 
 fn line(args: &[u8], out: &mut [u8]) -> usize {
-    if args.len() != LINE_SIZE {
-        return 0;
-    }
-    if byte(args, 1) > 4 {
-        return 0;
-    }
-    if byte(args, 11) > 1 {
-        return 0;
-    }
     let size = ANSWER + byte(args, 0) as usize;
     if size > out.len() {
         return 0;

@@ -1,7 +1,12 @@
 // A listing of a trace, in the slots of the station.
+use crate::operations::END;
+use crate::operations::LIST;
+use crate::operations::LISTED;
+use crate::operations::LISTING;
 use crate::request::byte;
 use crate::request::long;
 use crate::request::number;
+use crate::request::rest;
 use crate::response::ANSWER;
 use crate::response::fill;
 use crate::response::put_answer;
@@ -13,26 +18,16 @@ use crate::response::put_value;
 use crate::stations::Desk;
 use crate::stations::Done;
 use crate::stations::kept;
+use crate::stations::lent_of;
 use lister::Listed;
 use lister::Listing;
 use lister::Why;
-
-const LISTING: u8 = 19;
-
-const LISTED: u8 = 20;
-
-const LIST: u8 = 21;
-
-const END: u8 = 22;
 
 // The size of an answer with the count.
 const WITH_COUNT: usize = 12;
 
 // The same with the bytes used and written.
 const WITH_SIZES: usize = 16;
-
-// The longest output of one request.
-const ROOM: usize = 4096;
 
 // The desk with the slots and the count of a listing.
 fn with_listing(desk: Desk, listing: Listing) -> Desk {
@@ -61,17 +56,7 @@ fn set(desk: Desk, listing: Listing, out: &mut [u8]) -> Done {
     kept(with_listing(desk, listing), WITH_COUNT)
 }
 
-fn begin(desk: Desk, args: &[u8], out: &mut [u8]) -> Done {
-    if args.len() != 0 {
-        return kept(desk, 0);
-    }
-    set(desk, Listing::new(), out)
-}
-
 fn count(desk: Desk, args: &[u8], out: &mut [u8]) -> Done {
-    if args.len() != 8 {
-        return kept(desk, 0);
-    }
     let mut listing = listing_of(desk);
     listing.count = long(args, 0);
     set(desk, listing, out)
@@ -111,42 +96,17 @@ fn advanced(desk: Desk, listed: Listed, out: &mut [u8], size: usize) -> Done {
 
 // The output lent to the call is the part of the response after what it hands back.
 fn list(desk: Desk, bytes: &mut [u8], args: &[u8], out: &mut [u8]) -> Done {
-    let lent = desk.lent;
-    let room = number(args, 0);
-    let size = WITH_SIZES + room;
-    if args.len() < 2 {
-        return kept(desk, 0);
-    }
-    if room > ROOM {
-        return kept(desk, 0);
-    }
+    let size = WITH_SIZES + number(args, 0);
     if size > out.len() {
         return kept(desk, 0);
     }
-    if lent > bytes.len() {
-        return kept(desk, 0);
-    }
-    let listed = list_over(
-        desk,
-        &mut bytes[0..lent],
-        &args[2..],
-        &mut out[WITH_SIZES..size],
-    );
+    let store = lent_of(bytes, desk.lent);
+    let listed = list_over(desk, store, rest(args, 2), &mut out[WITH_SIZES..size]);
     advanced(desk, listed, out, size)
 }
 
 fn end(desk: Desk, args: &[u8], out: &mut [u8]) -> usize {
-    let room = number(args, 1);
-    let size = WITH_COUNT + room;
-    if args.len() != 3 {
-        return 0;
-    }
-    if byte(args, 0) > 1 {
-        return 0;
-    }
-    if room > ROOM {
-        return 0;
-    }
+    let size = WITH_COUNT + number(args, 1);
     if size > out.len() {
         return 0;
     }
@@ -161,7 +121,7 @@ fn end(desk: Desk, args: &[u8], out: &mut [u8]) -> usize {
 // Does what a request on a listing asks for, and writes the response.
 pub fn respond(desk: Desk, bytes: &mut [u8], operation: u8, args: &[u8], out: &mut [u8]) -> Done {
     match operation {
-        LISTING => begin(desk, args, out),
+        LISTING => set(desk, Listing::new(), out),
         LISTED => count(desk, args, out),
         LIST => list(desk, bytes, args, out),
         END => kept(desk, end(desk, args, out)),

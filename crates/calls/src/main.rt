@@ -4,6 +4,7 @@ mod bench;
 mod images;
 mod listings;
 mod masters;
+mod operations;
 mod request;
 mod response;
 mod stations;
@@ -213,7 +214,7 @@ fn serve(bytes: &mut [u8], input: &mut [u8], output: &mut [u8]) {
 // The input has room for the longest request, of 65,537 bytes, and the output for the longest
 // response, of 40,002.
 fn main() {
-    let mut bytes = [0u8; 40000];
+    let mut bytes = [0u8; operations::BYTES];
     let mut input = [0u8; 131072];
     let mut output = [0u8; 131072];
     serve(&mut bytes, &mut input, &mut output);

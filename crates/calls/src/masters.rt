@@ -1,4 +1,8 @@
 // A master and its exchange.
+use crate::operations::EXCHANGE;
+use crate::operations::MASTER;
+use crate::operations::REPLY;
+use crate::operations::START;
 use crate::request::byte;
 use crate::request::kind_of;
 use crate::response::put_answer;
@@ -11,16 +15,6 @@ use master::Kind;
 use master::Master;
 use master::Moved;
 
-const MASTER: u8 = 23;
-
-const EXCHANGE: u8 = 24;
-
-const START: u8 = 25;
-
-const REPLY: u8 = 26;
-
-const TIMEOUT: u8 = 27;
-
 // Where the chosen buses stand in a response, after the answer and the exchange.
 const CHOSEN: usize = 7;
 
@@ -31,14 +25,6 @@ const WITH_MASTER: usize = 71;
 pub struct Done {
     pub master: Master,
     pub size: usize,
-}
-
-// A request that is none.
-fn ignored(master: Master) -> Done {
-    Done {
-        master: master,
-        size: 0,
-    }
 }
 
 fn kind_code(kind: Kind) -> u8 {
@@ -93,13 +79,10 @@ fn moved(moved: Moved, out: &mut [u8]) -> Done {
     changed(next, out)
 }
 
-// A new master.
-fn renew(master: Master, args: &[u8], out: &mut [u8]) -> Done {
-    if args.len() != 0 {
-        return ignored(master);
-    }
+// A master that no call has moved: a new one, or one by hand.
+fn set(master: Master, out: &mut [u8]) -> Done {
     put_value(out, 0);
-    changed(Master::new(), out)
+    changed(master, out)
 }
 
 fn activity_of(kind: u8, node: u8, sends: u8) -> Activity {
@@ -115,66 +98,26 @@ fn activity_of(kind: u8, node: u8, sends: u8) -> Activity {
 }
 
 // A master by hand: A chosen for every node but one, and an exchange or none.
-fn by_hand(master: Master, args: &[u8], out: &mut [u8]) -> Done {
-    if args.len() != 5 {
-        return ignored(master);
-    }
-    let node = byte(args, 0) as usize;
-    let kind = byte(args, 2);
-    if node > 63 {
-        return ignored(master);
-    }
-    if kind > 3 {
-        return ignored(master);
-    }
+fn by_hand(args: &[u8]) -> Master {
+    let node = (byte(args, 0) % 64) as usize;
     let mut chosen = [0u8; 64];
     chosen[node] = byte(args, 1);
-    let activity = activity_of(kind, byte(args, 3), byte(args, 4));
-    put_value(out, 0);
-    let made = Master {
+    let activity = activity_of(byte(args, 2), byte(args, 3), byte(args, 4));
+    Master {
         chosen: chosen,
         activity: activity,
-    };
-    changed(made, out)
-}
-
-fn start(master: Master, args: &[u8], out: &mut [u8]) -> Done {
-    let kind = byte(args, 0);
-    if args.len() != 2 {
-        return ignored(master);
     }
-    if kind < 1 {
-        return ignored(master);
-    }
-    if kind > 3 {
-        return ignored(master);
-    }
-    moved(master.start(kind_of(kind), byte(args, 1)), out)
-}
-
-fn reply(master: Master, args: &[u8], out: &mut [u8]) -> Done {
-    if args.len() != 3 {
-        return ignored(master);
-    }
-    let answered = master.reply(byte(args, 0), byte(args, 1), byte(args, 2));
-    moved(answered, out)
-}
-
-fn timeout(master: Master, args: &[u8], out: &mut [u8]) -> Done {
-    if args.len() != 0 {
-        return ignored(master);
-    }
-    moved(master.timeout(), out)
 }
 
 // Does what a request on a master asks for, and writes the response.
 pub fn respond(master: Master, operation: u8, args: &[u8], out: &mut [u8]) -> Done {
+    let first = byte(args, 0);
+    let second = byte(args, 1);
     match operation {
-        MASTER => renew(master, args, out),
-        EXCHANGE => by_hand(master, args, out),
-        START => start(master, args, out),
-        REPLY => reply(master, args, out),
-        TIMEOUT => timeout(master, args, out),
-        _ => ignored(master),
+        MASTER => set(Master::new(), out),
+        EXCHANGE => set(by_hand(args), out),
+        START => moved(master.start(kind_of(first), second), out),
+        REPLY => moved(master.reply(first, second, byte(args, 2)), out),
+        _ => moved(master.timeout(), out),
     }
 }

@@ -1,5 +1,5 @@
 // The arguments of a request: bytes, numbers, formats, fields, keys and lines. A byte past the end
-// is 0, which spares the proofs of all places; the length of a request is tested before.
+// is 0, which spares the proofs of all places; operations has tested that there is none.
 use format::Fields;
 use format::Flag;
 use format::Format;
@@ -16,6 +16,22 @@ pub fn byte(args: &[u8], at: usize) -> u8 {
         return args[at];
     }
     0
+}
+
+// What stands between two places; nothing if the second is past the end.
+pub fn part(args: &[u8], from: usize, to: usize) -> &[u8] {
+    if to > args.len() {
+        return &args[0..0];
+    }
+    if from > to {
+        return &args[0..0];
+    }
+    &args[from..to]
+}
+
+// All from a place on.
+pub fn rest(args: &[u8], from: usize) -> &[u8] {
+    part(args, from, args.len())
 }
 
 // The two-byte number at a place.

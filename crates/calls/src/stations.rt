@@ -1,9 +1,21 @@
 // A station and what is lent to it: opening, closing, receiving at either front, reading, and slots
 // and bytes set by hand.
+use crate::operations::CLOSE;
+use crate::operations::FILL;
+use crate::operations::FRONT;
+use crate::operations::LEND;
+use crate::operations::NEW;
+use crate::operations::OPEN;
+use crate::operations::READ;
+use crate::operations::RECEIVE;
+use crate::operations::SLOT;
+use crate::operations::STORE;
 use crate::request::byte;
 use crate::request::format_of;
 use crate::request::key;
 use crate::request::number;
+use crate::request::part;
+use crate::request::rest;
 use crate::response::ANSWER;
 use crate::response::WITH_SLOTS;
 use crate::response::fill;
@@ -38,26 +50,6 @@ pub struct Done {
     pub desk: Desk,
     pub size: usize,
 }
-
-const NEW: u8 = 1;
-
-const OPEN: u8 = 2;
-
-const CLOSE: u8 = 3;
-
-const RECEIVE: u8 = 4;
-
-const READ: u8 = 5;
-
-const SLOT: u8 = 8;
-
-const LEND: u8 = 9;
-
-const STORE: u8 = 10;
-
-const FILL: u8 = 11;
-
-const FRONT: u8 = 12;
 
 pub fn new(format: Format, count: u64) -> Desk {
     let station = Station::new(format);
@@ -95,37 +87,29 @@ fn put_changed(desk: Desk, r: Changed, out: &mut [u8]) -> Done {
 }
 
 fn renew(desk: Desk, bytes: &mut [u8], args: &[u8], out: &mut [u8]) -> Done {
-    if args.len() != 1 {
-        return kept(desk, 0);
-    }
-    let code = byte(args, 0);
-    if code > 1 {
-        return kept(desk, 0);
-    }
     fill(bytes, 0, 0);
     put_value(out, 0);
-    let next = new(format_of(code), desk.count);
+    let next = new(format_of(byte(args, 0)), desk.count);
     let station = next.station;
     changed(next, station, out)
 }
 
 fn open(desk: Desk, args: &[u8], out: &mut [u8]) -> Done {
-    if args.len() != 7 {
-        return kept(desk, 0);
-    }
-    if byte(args, 1) > 1 {
-        return kept(desk, 0);
-    }
     let station = desk.station;
     put_changed(desk, station.open(key(args, 0)), out)
 }
 
 fn close(desk: Desk, args: &[u8], out: &mut [u8]) -> Done {
-    if args.len() != 1 {
-        return kept(desk, 0);
-    }
     let station = desk.station;
     put_changed(desk, station.close(byte(args, 0) as usize), out)
+}
+
+// The part that is lent, of all bytes.
+pub fn lent_of(bytes: &mut [u8], lent: usize) -> &mut [u8] {
+    if lent > bytes.len() {
+        return bytes;
+    }
+    &mut bytes[0..lent]
 }
 
 // Over a lent table of the station's slots.
@@ -153,17 +137,15 @@ fn received(desk: Desk, store: &mut [u8], bus: u8, image: &[u8]) -> Received {
 }
 
 fn receive(desk: Desk, bytes: &mut [u8], args: &[u8], out: &mut [u8]) -> Done {
-    let lent = desk.lent;
-    if args.len() < 1 {
-        return kept(desk, 0);
-    }
-    if lent > bytes.len() {
-        return kept(desk, 0);
-    }
-    let r = received(desk, &mut bytes[0..lent], args[0], &args[1..]);
+    let r = received(
+        desk,
+        lent_of(bytes, desk.lent),
+        byte(args, 0),
+        rest(args, 1),
+    );
     let answer = r.answer;
-    put_received(out, answer);
     let next = r.station;
+    put_received(out, answer);
     changed(desk, next, out)
 }
 
@@ -189,35 +171,16 @@ fn slot_of(kind: u8, h: u16, key: Key) -> Slot {
 }
 
 fn set_slot(desk: Desk, args: &[u8], out: &mut [u8]) -> Done {
-    if args.len() != 11 {
-        return kept(desk, 0);
-    }
-    let i = byte(args, 0) as usize;
-    let kind = byte(args, 1);
-    if i > 15 {
-        return kept(desk, 0);
-    }
-    if kind > 3 {
-        return kept(desk, 0);
-    }
-    if byte(args, 5) > 1 {
-        return kept(desk, 0);
-    }
+    let i = (byte(args, 0) % 16) as usize;
     let mut station = desk.station;
-    let slot = slot_of(kind, number(args, 2) as u16, key(args, 4));
+    let slot = slot_of(byte(args, 1), number(args, 2) as u16, key(args, 4));
     station.slots[i] = slot;
     put_value(out, 0);
     changed(desk, station, out)
 }
 
-fn lend(desk: Desk, bytes: &[u8], args: &[u8], out: &mut [u8]) -> Done {
-    if args.len() != 2 {
-        return kept(desk, 0);
-    }
+fn lend(desk: Desk, args: &[u8], out: &mut [u8]) -> Done {
     let n = number(args, 0);
-    if n > bytes.len() {
-        return kept(desk, 0);
-    }
     put_value(out, n);
     let mut next = desk;
     next.lent = n;
@@ -225,56 +188,32 @@ fn lend(desk: Desk, bytes: &[u8], args: &[u8], out: &mut [u8]) -> Done {
 }
 
 fn set_front(desk: Desk, args: &[u8], out: &mut [u8]) -> Done {
-    if args.len() != 1 {
-        return kept(desk, 0);
-    }
-    let front = byte(args, 0);
-    if front > 1 {
-        return kept(desk, 0);
-    }
     put_value(out, 0);
     let mut next = desk;
-    next.front = front;
+    next.front = byte(args, 0);
     kept(next, ANSWER)
 }
 
 // Both calls: the length, and the part itself.
 fn read(desk: Desk, bytes: &[u8], args: &[u8], out: &mut [u8]) -> usize {
-    let lent = desk.lent;
-    if args.len() != 1 {
-        return 0;
-    }
-    if lent > bytes.len() {
-        return 0;
-    }
     let i = byte(args, 0) as usize;
     let station = desk.station;
-    let store = &bytes[0..lent];
+    let store = part(bytes, 0, desk.lent);
     put_outcome(out, station.read_length(store, i));
-    let part = station.read(store, i);
-    copy_in(out, ANSWER, part);
-    ANSWER + part.len()
+    let packet = station.read(store, i);
+    copy_in(out, ANSWER, packet);
+    ANSWER + packet.len()
 }
 
 // A part of all bytes, lent or not.
 fn stored(bytes: &[u8], args: &[u8], out: &mut [u8]) -> usize {
-    if args.len() != 4 {
-        return 0;
-    }
     let from = number(args, 0);
     let size = number(args, 2);
-    let to = from + size;
-    if to > bytes.len() {
-        return 0;
-    }
-    copy_in(out, 0, &bytes[from..to]);
+    copy_in(out, 0, part(bytes, from, from + size));
     size
 }
 
 fn refill(bytes: &mut [u8], args: &[u8], out: &mut [u8]) -> usize {
-    if args.len() != 2 {
-        return 0;
-    }
     fill(bytes, byte(args, 0), byte(args, 1));
     put_value(out, 0);
     ANSWER
@@ -298,7 +237,7 @@ pub fn respond(desk: Desk, bytes: &mut [u8], operation: u8, args: &[u8], out: &m
         CLOSE => close(desk, args, out),
         RECEIVE => receive(desk, bytes, args, out),
         SLOT => set_slot(desk, args, out),
-        LEND => lend(desk, bytes, args, out),
+        LEND => lend(desk, args, out),
         FRONT => set_front(desk, args, out),
         _ => kept(desk, ask(desk, bytes, operation, args, out)),
     }

@@ -1,16 +1,12 @@
 // A watch over the silence of both buses.
+use crate::operations::HEARD;
+use crate::operations::WATCH;
 use crate::request::byte;
 use crate::request::word;
 use crate::response::put_outcome;
 use crate::response::put_value;
 use crate::response::put_word;
 use watch::Watch;
-
-const WATCH: u8 = 28;
-
-const HEARD: u8 = 29;
-
-const CHECK: u8 = 30;
 
 // The size of an answer with the last times.
 const WITH_TIMES: usize = 12;
@@ -19,14 +15,6 @@ const WITH_TIMES: usize = 12;
 pub struct Done {
     pub watch: Watch,
     pub size: usize,
-}
-
-// A request that is none.
-fn ignored(watch: Watch) -> Done {
-    Done {
-        watch: watch,
-        size: 0,
-    }
 }
 
 // The response to a call: the answer, which is written already, and the last times.
@@ -39,22 +27,16 @@ fn changed(watch: Watch, out: &mut [u8]) -> Done {
     }
 }
 
-fn renew(watch: Watch, args: &[u8], out: &mut [u8]) -> Done {
-    if args.len() != 4 {
-        return ignored(watch);
-    }
+fn renew(args: &[u8], out: &mut [u8]) -> Done {
     put_value(out, 0);
     changed(Watch::new(word(args, 0)), out)
 }
 
 fn hear(watch: Watch, args: &[u8], out: &mut [u8]) -> Done {
-    if args.len() != 5 {
-        return ignored(watch);
-    }
     let r = watch.heard(byte(args, 0), word(args, 1));
     let answer = r.answer;
-    put_outcome(out, answer);
     let next = r.watch;
+    put_outcome(out, answer);
     changed(next, out)
 }
 
@@ -73,21 +55,17 @@ fn resets(a: bool, b: bool) -> usize {
 }
 
 fn check(watch: Watch, args: &[u8], out: &mut [u8]) -> Done {
-    if args.len() != 4 {
-        return ignored(watch);
-    }
     let r = watch.check(word(args, 0));
-    put_value(out, resets(r.a, r.b));
     let next = r.watch;
+    put_value(out, resets(r.a, r.b));
     changed(next, out)
 }
 
 // Does what a request on a watch asks for, and writes the response.
 pub fn respond(watch: Watch, operation: u8, args: &[u8], out: &mut [u8]) -> Done {
     match operation {
-        WATCH => renew(watch, args, out),
+        WATCH => renew(args, out),
         HEARD => hear(watch, args, out),
-        CHECK => check(watch, args, out),
-        _ => ignored(watch),
+        _ => check(watch, args, out),
     }
 }
