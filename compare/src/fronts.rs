@@ -1,4 +1,4 @@
-//! Compares the front that receives over a lent table with the second program, on generated traces.
+//! Compares both receiving fronts with the second program, on generated traces.
 
 use crate::calls::keep_script;
 use crate::exchange;
@@ -13,6 +13,9 @@ use std::io::BufReader;
 use std::path::Path;
 use std::process::Command;
 
+/// The station's own, and the one over a lent table.
+const FRONTS: [u8; 2] = [0, 1];
+
 const SMALL_PARTS: &str = "input: written in small parts";
 
 /// What opening a key can answer here: it is new, open already, or all slots are taken.
@@ -26,29 +29,33 @@ pub fn compare(calls: &Path, count: u64, seed: u64, keep: Option<&Path>) -> Resu
         let trace = Trace::generate(seed, number);
         let part = part_size(&trace, &mut Random::of_item(!seed, number));
         let told = |difference| format!("seed {seed}, trace {number}: {difference}");
-        let script = script(&trace).map_err(told)?;
-        compare_one(calls, &script, part, &mut tally).map_err(|difference| {
-            let bytes = encode(&script.requests);
-            let kept = keep.map_or(String::new(), |file| keep_script(file, &bytes));
-            told(difference + &kept)
-        })?;
+        for front in FRONTS {
+            let script = script(&trace, front).map_err(told)?;
+            compare_one(calls, &script, part, &mut tally).map_err(|difference| {
+                let bytes = encode(&script.requests);
+                let kept = keep.map_or(String::new(), |file| keep_script(file, &bytes));
+                told(format!("front {front}: {difference}{kept}"))
+            })?;
+        }
         records += trace.records;
     }
     tally.print();
     tally.check()?;
-    println!("equal: {count} traces, {records} records");
+    println!("equal: {count} traces, {records} records, at each front");
     Ok(())
 }
 
 fn names() -> Vec<String> {
-    let received = ANSWERS.map(|answer| row(request::RECEIVE, answer));
-    let opened = OPENED.map(|answer| row(request::OPEN, answer));
-    let parts = [SMALL_PARTS.to_string()];
-    received.into_iter().chain(opened).chain(parts).collect()
+    let mut names = vec![SMALL_PARTS.to_string()];
+    for front in FRONTS {
+        names.extend(ANSWERS.map(|answer| row(front, request::RECEIVE, answer)));
+        names.extend(OPENED.map(|answer| row(front, request::OPEN, answer)));
+    }
+    names
 }
 
-fn row(operation: u8, answer: &str) -> String {
-    format!("front 1 {} {answer}", name(operation))
+fn row(front: u8, operation: u8, answer: &str) -> String {
+    format!("front {front} {} {answer}", name(operation))
 }
 
 /// In how large parts a script is handed over: whole, or some of the short ones in small parts, because it takes
@@ -82,7 +89,7 @@ fn compare_one(
     )?;
     for (request, response) in requests.iter().zip(&expected) {
         if [request::OPEN, request::RECEIVE].contains(&request[0]) {
-            tally.count(&row(request[0], &answer(response)));
+            tally.count(&row(script.front, request[0], &answer(response)));
         }
     }
     if part < usize::MAX {
@@ -93,16 +100,16 @@ fn compare_one(
 
 /// The requests for a trace, and what the second program's listing says of each record.
 struct Script {
+    front: u8,
     requests: Vec<Request>,
     listed: Vec<String>,
 }
 
-/// Receives each whole record at the front over a lent table, after opening its key as a listing does, and asks
-/// for the store.
-fn script(trace: &Trace) -> Result<Script, String> {
+/// Receives each whole record at that front, after opening its key as a listing does, and asks for the store.
+fn script(trace: &Trace, front: u8) -> Result<Script, String> {
     let listing = by_second(&trace.bytes)?;
     let records = records_of(&listing)?;
-    let mut requests = vec![request::new(Format::Extended), request::front(1)];
+    let mut requests = vec![request::new(Format::Extended), request::front(front)];
     let mut rest = &trace.bytes[..];
     for record in &records {
         let (bus, image) = match read_record(&mut rest) {
@@ -129,6 +136,7 @@ fn script(trace: &Trace) -> Result<Script, String> {
     requests.push(request::store(0, FULL_STORE));
     let listed = records.iter().map(|record| record.answer.to_string());
     Ok(Script {
+        front,
         listed: listed.collect(),
         requests,
     })
@@ -295,7 +303,7 @@ mod tests {
 
     #[test]
     fn opens_the_key_of_each_frame_and_receives_every_record() {
-        let script = script(&trace()).unwrap();
+        let script = script(&trace(), 1).unwrap();
         let open = vec![request::OPEN, 1, 0, 0, 6, 0, 0, 2];
         let start = request::receive(1, &[0x88, 6, 0, 0x40, 0x10, 1, 2, 3, 4, 5, 6, 7, 8]);
         assert_eq!(script.requests[..2], [vec![request::NEW, 0], vec![12, 1]]);
@@ -311,12 +319,12 @@ mod tests {
     fn refuses_a_trace_with_another_number_of_records() {
         let mut trace = trace();
         trace.records = 4;
-        assert!(script(&trace).is_err());
+        assert!(script(&trace, 1).is_err());
     }
 
     #[test]
     fn tells_a_record_that_is_answered_otherwise() {
-        let mut script = script(&trace()).unwrap();
+        let mut script = script(&trace(), 1).unwrap();
         let responses = exchange::by_second(&script.requests, &[]).unwrap();
         assert_eq!(check_listed(&script, &responses), Ok(()));
         script.listed[2] = "packet 8".to_string();

@@ -34,7 +34,9 @@ class Bench:
     def set_fronts(self):
         """Has the first program receive by the station, the second over a table. A new station forgets it."""
         for front, driver in enumerate(self.drivers):
-            driver.ask(Operation.FRONT, bytes([front])).settled()
+            response = driver.ask(Operation.FRONT, bytes([front]))
+            response.settled()
+            response.end()
 
     def read_file(self, path):
         try:

@@ -1,6 +1,6 @@
 """Commands on a master's exchanges and on the watch for a silent bus."""
 
-from driver import Kind, Operation
+from driver import Failure, Kind, Operation
 from lines import answer_text, bus_name, exchange_name
 from words import EXCHANGES
 
@@ -73,6 +73,8 @@ class Exchanges:
 
     def show_chosen(self, _words):
         """The nodes for which bus B is chosen after the last call."""
+        if not self.chosen:
+            raise Failure("no call was made on a master yet")
         return "B chosen:" + "".join(f" {node}" for node, bus in enumerate(self.chosen) if bus == 1) + "\n"
 
     def ask_watch(self, operation, arguments):
@@ -84,7 +86,9 @@ class Exchanges:
 
     def watch(self, words):
         time = words.number("time", TIME)
-        _, times = self.ask_watch(Operation.WATCH, time.to_bytes(TIME, "big"))
+        answer, times = self.ask_watch(Operation.WATCH, time.to_bytes(TIME, "big"))
+        if answer != (Kind.VALUE, 0, 0):
+            raise Failure(f"the answer to WATCH is not the value 0: {answer}")
         return f"new {time}:{times}"
 
     def heard(self, words):

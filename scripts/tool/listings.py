@@ -36,7 +36,7 @@ class Listings:
     """The commands; each returns the text that it shows, if any."""
 
     def __init__(self, bench):
-        self.bench, self.output, self.trace, self.place = bench, b"", b"", 0
+        self.bench, self.output, self.trace, self.place = bench, None, b"", 0
 
     def commands(self):
         return {
@@ -135,4 +135,6 @@ class Listings:
 
     def show_output(self, _words):
         """The whole output of the last part listed."""
+        if self.output is None:
+            raise Failure("no part was listed yet")
         return text(self.output) + "\n"

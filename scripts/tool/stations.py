@@ -181,11 +181,14 @@ class Stations:
         self.bench.start()
         self.renew(0)
 
+    def two_fronts(self):
+        if len(self.bench.drivers) < 2:
+            raise Failure("there is only one front: 'fronts' sets two")
+
     def alike(self, words):
         """How many slots of the two fronts are alike after the last call, and how many bytes of their stores."""
         size = words.number("size", 2)
-        if len(self.bench.drivers) < 2:
-            raise Failure("there is only one front: 'fronts' sets two")
+        self.two_fronts()
         stores = self.bench.ask_each(Operation.STORE, bytes(2) + size.to_bytes(2, "big"))
         first, second = (store.take(size) for store in stores)
         slots = [[held[i:i + SLOT_SIZE] for i in range(0, len(held), SLOT_SIZE)] for held in self.slots]
@@ -199,6 +202,7 @@ class Stations:
     def replay(self, words):
         """Every whole record of a trace, in order. A frame's key is opened before it, if it is not open."""
         form, trace = words.format(), self.bench.read_file(words.text("path"))
+        self.two_fronts()
         shown, at, first, second = "", 0, [], []
         while True:
             record, image = self.next_record(trace, at)
@@ -211,4 +215,6 @@ class Stations:
             first.append(answers[0])
             second.append(answers[-1])
             shown += f"{len(first)}{bus_name(record.more)}{side_by_side(answers)}\n"
+            if record.number == 0:
+                raise Failure("a record of no bytes")
             at += record.number
