@@ -6,13 +6,13 @@ from driver import Driver, Failure, Operation
 class Bench:
     """The programs under way. With two, the second receives over a lent table."""
 
-    def __init__(self, command, root):
-        self.command, self.root = command, root
+    def __init__(self, command, seconds, root):
+        self.command, self.seconds, self.root = command, seconds, root
         self.drivers = []
         self.start()
 
     def start(self):
-        self.drivers.append(Driver(self.command))
+        self.drivers.append(Driver(self.command, self.seconds))
 
     def calls(self):
         return sum(driver.calls for driver in self.drivers)

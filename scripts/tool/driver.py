@@ -7,7 +7,6 @@ import subprocess
 import tempfile
 from collections import namedtuple
 
-SECONDS = 20  # the longest wait for a response, and for the program's end
 BATCH = 256  # short requests that are sent together: they and their responses fit in a pipe
 
 Operation = enum.IntEnum("Operation", """
@@ -73,12 +72,12 @@ class Response:
 
 
 @contextlib.contextmanager
-def time_limit():
+def time_limit(seconds):
     """Fails what waits for the program longer than it may."""
     def late(_signal, _frame):
-        raise Failure(f"the program hangs: nothing came for {SECONDS} seconds")
+        raise Failure(f"the program hangs: nothing came for {seconds:g} seconds")
     before = signal.signal(signal.SIGALRM, late)
-    signal.setitimer(signal.ITIMER_REAL, SECONDS)
+    signal.setitimer(signal.ITIMER_REAL, seconds)
     try:
         yield
     finally:
@@ -89,8 +88,8 @@ def time_limit():
 class Driver:
     """One such program, from its start to its end."""
 
-    def __init__(self, command):
-        self.calls = 0
+    def __init__(self, command, seconds):
+        self.calls, self.seconds = 0, seconds
         self.errors = tempfile.TemporaryFile()
         try:
             self.process = subprocess.Popen(
@@ -117,7 +116,7 @@ class Driver:
         for request in requests:
             if len(request) > 65535:
                 raise Failure(f"a request of {len(request)} bytes is too long")
-        with time_limit():
+        with time_limit(self.seconds):
             self.send(b"".join(len(request).to_bytes(2, "big") + request for request in requests))
             return [self.receive() for _ in requests]
 
@@ -147,7 +146,7 @@ class Driver:
 
     def finish(self):
         """Ends the input. The program must end too, by itself, and say no more."""
-        with time_limit():
+        with time_limit(self.seconds):
             with contextlib.suppress(BrokenPipeError):
                 self.process.stdin.close()
             left = self.process.stdout.read()

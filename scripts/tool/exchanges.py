@@ -42,22 +42,24 @@ class Exchanges:
         answer, master = self.move(operation, arguments)
         return answer_text(answer) + master_text(master)
 
-    def settle(self, operation, arguments=b""):
-        """Sets the master, which is always answered alike."""
+    def settle(self, operation, arguments, exchange, chosen):
+        """Sets the master, which is always answered alike, and is then the one that was asked for."""
         response = self.bench.ask(operation, arguments)
         response.settled()
-        self.chosen = response.take(3 + NODES)[3:]
-        response.end()
+        self.chosen = chosen
+        if response.rest() != exchange + chosen:
+            raise Failure(f"the master after {operation.name} is another: {response.data.hex(' ')}")
 
     def master(self, _words):
-        self.settle(Operation.MASTER)
+        self.settle(Operation.MASTER, b"", bytes(3), bytes(NODES))
 
     def exchange(self, words):
         """A master made by hand: one node's chosen bus, and the exchange, if there is one."""
-        made = [words.number("node"), words.bus(), 0, 0, 0]
+        node, bus, exchange = words.number("node"), words.bus(), bytes(3)
         if words.words:
-            made[2:] = words.choice("exchange", EXCHANGES), words.number("node"), words.number("sends")
-        self.settle(Operation.EXCHANGE, bytes(made))
+            exchange = bytes([1 + words.choice("exchange", EXCHANGES[1:]), words.number("node"), words.number("sends")])
+        chosen = bytes(bus if place == node else 0 for place in range(NODES))
+        self.settle(Operation.EXCHANGE, bytes([node, bus]) + exchange, exchange, chosen)
 
     def start(self, words):
         kind, node = words.choice("exchange", EXCHANGES), words.number("node")

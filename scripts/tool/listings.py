@@ -37,6 +37,7 @@ class Listings:
 
     def __init__(self, bench):
         self.bench, self.output, self.trace, self.place = bench, None, b"", 0
+        self.count = 0  # of the records listed, after the last call
 
     def commands(self):
         return {
@@ -79,9 +80,14 @@ class Listings:
     def set_count(self, operation, arguments, count):
         response = self.bench.ask(operation, arguments)
         response.settled()
-        if response.number(COUNT) != count:
-            raise Failure(f"the count is not {count} after {operation.name}")
+        self.count = count
+        self.kept_count(response)
         response.end()
+
+    def kept_count(self, response):
+        """Takes the count from a response that must have left it as it was."""
+        if response.number(COUNT) != self.count:
+            raise Failure(f"the count is not {self.count} after {response.name}")
 
     def listing(self, _words):
         self.set_count(Operation.LISTING, b"", 0)
@@ -93,10 +99,10 @@ class Listings:
     def list_part(self, part, room):
         """Lists a part of a trace: how many bytes were used, and the text of it."""
         response = self.bench.ask(Operation.LIST, room.to_bytes(2, "big") + part)
-        why, count = response.answer(), response.number(COUNT)
+        why, self.count = response.answer(), response.number(COUNT)
         used, written, self.output = response.number(2), response.number(2), response.take(room)
         response.end()
-        shown = f"list {len(part)} in {room}:{answer_text(why)} used {used} written {written} count {count}\n"
+        shown = f"list {len(part)} in {room}:{answer_text(why)} used {used} written {written} count {self.count}\n"
         return used, shown + text(self.output[:written])
 
     def list(self, words):
@@ -119,7 +125,9 @@ class Listings:
     def end(self, words):
         room, stopped = words.room(), words.has("stopped")
         response = self.bench.ask(Operation.END, bytes([stopped]) + room.to_bytes(2, "big"))
-        answer, _, output = response.answer(), response.number(COUNT), response.take(room)
+        answer = response.answer()
+        self.kept_count(response)
+        output = response.take(room)
         response.end()
         return f"end in {room}{', stopped' if stopped else ''}:{filled_text(answer, output)}"
 
