@@ -29,8 +29,17 @@ pub fn fill(bytes: &mut [u8], first: u8, step: u8) {
     }
 }
 
-// The two lowest bytes of a number.
+// A number that has no room in two bytes, which no call gives, is shown as the largest that has.
+fn shown(n: usize) -> usize {
+    if n > 65535 {
+        return 65535;
+    }
+    n
+}
+
+// The two bytes of a number.
 pub fn put_number(out: &mut [u8], at: usize, n: usize) {
+    let n = shown(n);
     let bytes = [(n / 256 % 256) as u8, (n % 256) as u8];
     copy_in(out, at, &bytes);
 }
@@ -49,19 +58,11 @@ pub fn put_long(out: &mut [u8], at: u8, n: u64) {
     put_word(out, at + 4, (n % 4294967296) as u32);
 }
 
-// A number that has no room in two bytes, which no call gives, is shown as the largest that has.
-fn shown(n: usize) -> usize {
-    if n > 65535 {
-        return 65535;
-    }
-    n
-}
-
 // The four bytes of an answer.
 pub fn put_answer(out: &mut [u8], kind: u8, n: usize, more: u8) {
-    let n = shown(n);
-    let bytes = [kind, (n / 256 % 256) as u8, (n % 256) as u8, more];
+    let bytes = [kind, 0, 0, more];
     copy_in(out, 0, &bytes);
+    put_number(out, 1, n);
 }
 
 pub fn put_refused(out: &mut [u8], name: Refusal) {
