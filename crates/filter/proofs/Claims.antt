@@ -8,12 +8,12 @@ use Rattle.format.specs.declared.Fields.the-variants.{Extended}
 use Rattle.format.specs.Formats.{inRange}
 use Rattle.format.proofs.Tests.{each}
 use Rattle.frame.specs.Judge.{Frame}
-use Rattle.frame.specs.Image.{header, imageOf, soundFrame}
+use Rattle.frame.specs.Image.{headerBytes, imageOf, soundFrame}
 use Rattle.filter.specs.Claims.{idIn, InImage}
 
 bits-of : (frame : Frame) (priority source group destination function : ℕ) → frame .fields ≡ Extended priority source group destination function
     → idIn (imageOf frame) ≡ (64 * priority + source) * 256 + (64 * group + destination)
-unfolding imageOf header
+unfolding imageOf headerBytes
 bits-of frame priority source group destination function e = rw e
 
 ranges : (priority source group destination function : ℕ) → inRange (Extended priority source group destination function) ≡ true

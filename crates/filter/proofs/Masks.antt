@@ -12,7 +12,7 @@ use lib.Arith.{lt-one}
 use lib.Bits.{bitOr, bitXor, or-step, xor-shr, xor-mod, xor-lt}
 use lib.Dec.{eqb}
 use lib.Pow.{shr-shr, shr-lt}
-use Rattle.format.specs.Tests.{allAfter, all}
+use Rattle.format.specs.Tests.{allAfter, allTrue}
 use Rattle.filter.specs.declared.Filter.{Filter}
 use Rattle.filter.specs.Filters.{bit, passes, accepts}
 
@@ -100,7 +100,7 @@ after false (c ∷ cs) = after false cs
 
 -- the definition, as bits from place 0 on
 sixteen : (filter : Filter) (id : ℕ) → accepts filter id ≡ conj id (filter .code) (filter .mask) 0 16
-unfolding accepts all passes bit conj nested
+unfolding accepts allTrue passes bit conj nested
 sixteen filter id = after true (map (passes filter id) (13 ∷ 14 ∷ 15 ∷ 16 ∷ 17 ∷ 18 ∷ 19 ∷ 20 ∷ 21 ∷ 22 ∷ 23 ∷ 24 ∷ 25 ∷ 26 ∷ 27 ∷ 28 ∷ []))
 
 from-0 : (a c m : ℕ) → whole (a / 2 ^ 0) (c / 2 ^ 0) (m / 2 ^ 0) ≡ whole a c m

@@ -6,7 +6,7 @@ use mathlib.Core.Bool.{Bool, _||_}
 use mathlib.Core.List.{List, [], _∷_, map}
 use lib.Dec.{eqb}
 use lib.ListN.{getD}
-use Rattle.format.specs.Tests.{all}
+use Rattle.format.specs.Tests.{allTrue}
 use Rattle.filter.specs.declared.Filter.{Filter}
 use Rattle.filter.specs.declared.Pair.{Pair}
 
@@ -21,7 +21,7 @@ passes filter id i = eqb (bit id i) (bit (filter .code) i) || eqb (bit (filter .
 -- i = 13, .., 28
 unfoldable pub accepts : Filter → ℕ → Bool
 accepts filter id =
-    all
+    allTrue
     (map (passes filter id)
     (13 ∷ 14 ∷ 15 ∷ 16 ∷ 17 ∷ 18 ∷ 19 ∷ 20 ∷ 21 ∷ 22 ∷ 23 ∷ 24 ∷ 25 ∷ 26 ∷ 27 ∷ 28 ∷ []))
 

@@ -11,7 +11,7 @@ use Rattle.format.specs.declared.Fields.{Fields}
 use Rattle.format.specs.declared.Fields.the-variants as fields
 use Rattle.format.specs.declared.Flag.{Flag}
 use Rattle.format.specs.declared.Flag.the-variants.{Middle, Start, End, Single}
-use Rattle.format.specs.Tests.{all}
+use Rattle.format.specs.Tests.{allTrue}
 
 -- most bytes in a packet
 abbrev pub packetLimit : Format → ℕ
@@ -62,5 +62,5 @@ formatOf (fields.Standard priority address side) = Standard
 
 unfoldable pub inRange : Fields → Bool
 inRange (fields.Extended priority source group destination function) =
-    all (leb priority 3 ∷ leb source 63 ∷ leb group 3 ∷ leb destination 63 ∷ leb function 31 ∷ [])
-inRange (fields.Standard priority address side) = all (leb priority 3 ∷ leb address 63 ∷ leb side 1 ∷ [])
+    allTrue (leb priority 3 ∷ leb source 63 ∷ leb group 3 ∷ leb destination 63 ∷ leb function 31 ∷ [])
+inRange (fields.Standard priority address side) = allTrue (leb priority 3 ∷ leb address 63 ∷ leb side 1 ∷ [])

@@ -1,4 +1,4 @@
--- Tests that all have to hold: `all (a ∷ b ∷ c ∷ [])` is `a && b && c`.
+-- Tests that all have to hold: `allTrue (a ∷ b ∷ c ∷ [])` is `a && b && c`.
 use mathlib.Core.Bool.{Bool, true, _&&_}
 use mathlib.Core.List.{List, [], _∷_}
 
@@ -6,6 +6,6 @@ unfoldable pub allAfter : Bool → List Bool → Bool
 allAfter b [] = b
 allAfter b (c ∷ cs) = allAfter (b && c) cs
 
-unfoldable pub all : List Bool → Bool
+unfoldable pub allTrue : List Bool → Bool
 unfolding allAfter
-all bs = allAfter true bs
+allTrue bs = allAfter true bs

@@ -21,7 +21,7 @@ use Rattle.format.proofs.Tests.{each, from-each, tests}
 use Rattle.format.proofs.Checks.{pass, none-left, Passed, passed}
 use Rattle.frame.specs.Layout.{flagOf, layout}
 use Rattle.frame.specs.Judge.{pieceRule, checks, readBy, judge}
-use Rattle.frame.specs.Image.{header, imageOf, soundFrame}
+use Rattle.frame.specs.Image.{headerBytes, imageOf, soundFrame}
 use Rattle.frame.specs.Claims.{Bytes, ImageIsJudged, IsImage, JudgedIsImage, OneImage}
 use Rattle.frame.proofs.Flags.{bits-small, flag-of-bits, bits-of-flag}
 
@@ -39,7 +39,7 @@ module _ (priority source group destination function : ℕ) (flag : Flag) (n : �
   of-extended : soundFrame (record { fields = Extended priority source group destination function; flag = flag; number = n; bytes = bytes }) ≡ true
       → judge format.Extended (imageOf (record { fields = Extended priority source group destination function; flag = flag; number = n; bytes = bytes }))
       ≡ value (record { frame = record { fields = Extended priority source group destination function; flag = flag; number = n; bytes = bytes }; start = 5 })
-  unfolding soundFrame inRange imageOf header judge checks layout
+  unfolding soundFrame inRange imageOf headerBytes judge checks layout
   of-extended s =
       let t = each _ s in
       let r = each _ (t .0) in
@@ -92,7 +92,7 @@ module _ (priority address side : ℕ) (flag : Flag) (n : ℕ) (bytes : List ℕ
   of-standard : soundFrame (record { fields = Standard priority address side; flag = flag; number = n; bytes = bytes }) ≡ true
       → judge format.Standard (imageOf (record { fields = Standard priority address side; flag = flag; number = n; bytes = bytes }))
       ≡ value (record { frame = record { fields = Standard priority address side; flag = flag; number = n; bytes = bytes }; start = packetStart format.Standard flag })
-  unfolding soundFrame inRange imageOf header judge checks layout
+  unfolding soundFrame inRange imageOf headerBytes judge checks layout
   of-standard s =
       let t = each _ s in
       let r = each _ (t .0) in
@@ -148,7 +148,7 @@ number-small false n h = omega arith
 
 module _ (image : List ℕ) (small : Bytes image) (h : Passed (checks format.Extended (length image) (layout format.Extended image))) where
   extended-image : IsImage format.Extended image (readBy (layout format.Extended image) image)
-  unfolding checks layout imageOf header soundFrame inRange
+  unfolding checks layout imageOf headerBytes soundFrame inRange
   extended-image =
       let b0 = getD image 0 0 in
       let b1 = getD image 1 0 in
@@ -203,7 +203,7 @@ start-back End size number h r = let u = each _ r in omega tests
 
 module _ (image : List ℕ) (small : Bytes image) (h : Passed (checks format.Standard (length image) (layout format.Standard image))) where
   standard-image : IsImage format.Standard image (readBy (layout format.Standard image) image)
-  unfolding checks layout imageOf header soundFrame inRange
+  unfolding checks layout imageOf headerBytes soundFrame inRange
   standard-image =
       let b0 = getD image 0 0 in
       let b1 = getD image 1 0 in

@@ -9,7 +9,7 @@ use lib.ListN.{length}
 use borrow.Author.Tests.{le-leb, lt-leb, eq-eqb, ne-eqb, not-true, not-false}
 use Rattle.format.specs.declared.Format.{Format}
 use Rattle.format.specs.declared.Refusal.the-variants.{Length, Form, Remote, Count, Piece}
-use Rattle.format.specs.Tests.{all}
+use Rattle.format.specs.Tests.{allTrue}
 use Rattle.format.specs.Formats.{headerSize}
 use Rattle.format.specs.Refusals.{Result, value, refused, guarded}
 use Rattle.format.proofs.Checks.{stop, pass, none-left}
@@ -17,16 +17,16 @@ use Rattle.frame.specs.declared.Layout.{Layout}
 use Rattle.frame.specs.Layout.{layout}
 use Rattle.frame.specs.Judge.{pieceRule, checks, Judged, readBy, judge}
 
-both : (a b : Bool) → a ≡ true → b ≡ true → all (a ∷ b ∷ []) ≡ true
-unfolding all
+both : (a b : Bool) → a ≡ true → b ≡ true → allTrue (a ∷ b ∷ []) ≡ true
+unfolding allTrue
 both a b p q = rw (p, q)
 
-first-fails : (a b : Bool) → a ≡ false → all (a ∷ b ∷ []) ≡ false
-unfolding all
+first-fails : (a b : Bool) → a ≡ false → allTrue (a ∷ b ∷ []) ≡ false
+unfolding allTrue
 first-fails a b p = rw p
 
-second-fails : (a b : Bool) → a ≡ true → b ≡ false → all (a ∷ b ∷ []) ≡ false
-unfolding all
+second-fails : (a b : Bool) → a ≡ true → b ≡ false → allTrue (a ∷ b ∷ []) ≡ false
+unfolding allTrue
 second-fails a b p q = rw (p, q)
 
 -- header, number of data bytes and layout, as the code has them
@@ -47,7 +47,7 @@ module _ (format : Format) (image : List ℕ) (said : Layout) (e : said ≡ layo
       judged (stop Length _ _ (second-fails _ _ (le-leb _ _ l) (lt-leb _ _ m)))
 
   module _ (h : header ≤ length image) (k : length image - header ≤ 8) where
-    sized : all (leb (headerSize format) (length image) ∷ leb (length image) (headerSize format + 8) ∷ []) ≡ true
+    sized : allTrue (leb (headerSize format) (length image) ∷ leb (length image) (headerSize format + 8) ∷ []) ≡ true
     sized =
         let l : headerSize format ≤ length image = omega arith in
         let m : length image ≤ headerSize format + 8 = omega arith in
@@ -69,7 +69,7 @@ module _ (format : Format) (image : List ℕ) (said : Layout) (e : said ≡ layo
         r : eqb (said .rtr) 0 ≡ true
         r = not-false (eqb (said .rtr) 0) present
 
-        miscounted : all (leb (said .count) 8 ∷ eqb (length image) (headerSize format + said .count) ∷ []) ≡ false → refused 4 ≡ judge format image
+        miscounted : allTrue (leb (said .count) 8 ∷ eqb (length image) (headerSize format + said .count) ∷ []) ≡ false → refused 4 ≡ judge format image
         unfolding checks
         miscounted c = judged (pass Length _ _ sized (pass Form _ _ f (pass Remote _ _ r (stop Count _ _ c))))
 
@@ -83,7 +83,7 @@ module _ (format : Format) (image : List ℕ) (said : Layout) (e : said ≡ layo
               miscounted (second-fails _ _ (le-leb _ _ c) (ne-eqb _ _ m))
 
           module _ (n : length image - header ≡ count) (rule : Bool) (er : rule ≡ pieceRule format (said .flag) (said .count) (said .number)) where
-            counted : all (leb (said .count) 8 ∷ eqb (length image) (headerSize format + said .count) ∷ []) ≡ true
+            counted : allTrue (leb (said .count) 8 ∷ eqb (length image) (headerSize format + said .count) ∷ []) ≡ true
             counted = let m : length image ≡ headerSize format + said .count = omega arith in both _ _ (le-leb _ _ c) (eq-eqb _ _ m)
 
             pub unruled : not rule ≡ true → refused 5 ≡ judge format image

@@ -8,7 +8,7 @@ use Rattle.format.specs.declared.Fields.{Fields}
 use Rattle.format.specs.declared.Fields.the-variants.{Extended, Standard}
 use Rattle.format.specs.declared.Format.{Format}
 use Rattle.format.specs.declared.Flag.{Flag}
-use Rattle.format.specs.Tests.{all}
+use Rattle.format.specs.Tests.{allTrue}
 use Rattle.format.specs.Formats.{formatOf, numberRange, numbered, inRange, flagBits}
 use Rattle.frame.specs.Judge.{Frame, pieceRule}
 
@@ -17,23 +17,23 @@ abbrev pub dataOf : Frame → List ℕ
 dataOf frame = cond (numbered (formatOf (frame .fields)) (frame .flag)) (frame .number ∷ frame .bytes) (frame .bytes)
 
 -- the header's bytes by fields, flag, number and count, with RTR 0
-unfoldable pub header : Fields → Flag → (number count : ℕ) → List ℕ
-header (Extended priority source group destination function) flag number count =
+unfoldable pub headerBytes : Fields → Flag → (number count : ℕ) → List ℕ
+headerBytes (Extended priority source group destination function) flag number count =
     (128 + count)
     ∷ (64 * priority + source)
     ∷ (64 * group + destination)
     ∷ (64 * flagBits flag + number)
     ∷ (8 * function)
     ∷ []
-header (Standard priority address side) flag number count =
+headerBytes (Standard priority address side) flag number count =
     (64 * priority + address) ∷ (128 * side + 32 * flagBits flag + count) ∷ []
 
 unfoldable pub imageOf : Frame → List ℕ
 imageOf frame =
-    header (frame .fields) (frame .flag) (frame .number) (length (dataOf frame)) ++ dataOf frame
+    headerBytes (frame .fields) (frame .flag) (frame .number) (length (dataOf frame)) ++ dataOf frame
 
 -- a frame whose fields and number are in range and that keeps the piece rules
 unfoldable pub soundFrame : Frame → Bool
 soundFrame frame =
     let fm : Format = formatOf (frame .fields) in
-    all (inRange (frame .fields) ∷ ltb (frame .number) (numberRange fm) ∷ pieceRule fm (frame .flag) (length (dataOf frame)) (frame .number) ∷ [])
+    allTrue (inRange (frame .fields) ∷ ltb (frame .number) (numberRange fm) ∷ pieceRule fm (frame .flag) (length (dataOf frame)) (frame .number) ∷ [])

@@ -10,7 +10,7 @@ use Rattle.format.specs.declared.Fields.{Fields}
 use Rattle.format.specs.declared.Flag.{Flag}
 use Rattle.format.specs.declared.Flag.the-variants.{Middle, Start, End, Single}
 use Rattle.format.specs.declared.Refusal.the-variants.{Length, Form, Remote, Count, Piece}
-use Rattle.format.specs.Tests.{all}
+use Rattle.format.specs.Tests.{allTrue}
 use Rattle.format.specs.Formats.{headerSize}
 use Rattle.format.specs.Refusals.{Result, value, refused, Check, check, guarded, number}
 use Rattle.frame.specs.declared.Layout.{Layout}
@@ -30,22 +30,22 @@ pub record Frame : Type 0 where
 -- middle: count 8. Standard number 1 to 254.
 -- end: extended count 1 to 8; standard number 1 to 255 and count 2 to 8, but at least 3 where the number is 1.
 unfoldable pub pieceRule : Format → Flag → (count number : ℕ) → Bool
-pieceRule format Single count number = all (leb count 8 ∷ eqb number 0 ∷ [])
-pieceRule format Start count number = all (eqb count 8 ∷ eqb number 0 ∷ [])
+pieceRule format Single count number = allTrue (leb count 8 ∷ eqb number 0 ∷ [])
+pieceRule format Start count number = allTrue (eqb count 8 ∷ eqb number 0 ∷ [])
 pieceRule Extended Middle count number = eqb count 8
-pieceRule Standard Middle count number = all (eqb count 8 ∷ leb 1 number ∷ leb number 254 ∷ [])
-pieceRule Extended End count number = all (leb 1 count ∷ leb count 8 ∷ [])
+pieceRule Standard Middle count number = allTrue (eqb count 8 ∷ leb 1 number ∷ leb number 254 ∷ [])
+pieceRule Extended End count number = allTrue (leb 1 count ∷ leb count 8 ∷ [])
 pieceRule Standard End count number =
-    all (leb 1 number ∷ leb number 255 ∷ leb 2 count ∷ leb count 8 ∷ (not (eqb number 1) || leb 3 count) ∷ [])
+    allTrue (leb 1 number ∷ leb number 255 ∷ leb 2 count ∷ leb count 8 ∷ (not (eqb number 1) || leb 3 count) ∷ [])
 
 -- LENGTH: image length outside its format's range, 5 to 13 or 2 to 10. FORM: extended fixed bits wrong. REMOTE: RTR is 1.
 -- COUNT: count over 8, or image length not header plus count. PIECE: a piece rule broken.
 unfoldable pub checks : Format → ℕ → Layout → List Check
 checks format size said =
-    check Length (all (leb (headerSize format) size ∷ leb size (headerSize format + 8) ∷ []))
+    check Length (allTrue (leb (headerSize format) size ∷ leb size (headerSize format + 8) ∷ []))
     ∷ check Form (said .fixed)
     ∷ check Remote (eqb (said .rtr) 0)
-    ∷ check Count (all (leb (said .count) 8 ∷ eqb size (headerSize format + said .count) ∷ []))
+    ∷ check Count (allTrue (leb (said .count) 8 ∷ eqb size (headerSize format + said .count) ∷ []))
     ∷ check Piece (pieceRule format (said .flag) (said .count) (said .number))
     ∷ []
 

@@ -9,7 +9,7 @@ use Rattle.format.specs.declared.Format.the-variants.{Extended, Standard}
 use Rattle.format.specs.declared.Fields.the-variants as fields
 use Rattle.format.specs.declared.Flag.{Flag}
 use Rattle.format.specs.declared.Flag.the-variants.{Middle, Start, End, Single}
-use Rattle.format.specs.Tests.{all}
+use Rattle.format.specs.Tests.{allTrue}
 use Rattle.format.specs.Formats.{flagBits, numbered, packetStart}
 use Rattle.frame.specs.declared.Layout.{Layout}
 
@@ -27,7 +27,7 @@ layout Extended image =
     let byte : ℕ → ℕ = λ i. getD image i 0 in
     let flag : Flag = flagOf (byte 3 / 64) in
     record {
-      fixed = all (eqb (byte 0 / 128) 1 ∷ eqb (byte 0 / 16 % 4) 0 ∷ eqb (byte 4 % 8) 0 ∷ []);
+      fixed = allTrue (eqb (byte 0 / 128) 1 ∷ eqb (byte 0 / 16 % 4) 0 ∷ eqb (byte 4 % 8) 0 ∷ []);
       rtr = byte 0 / 64 % 2;
       count = byte 0 % 16;
       fields = fields.Extended (byte 1 / 64) (byte 1 % 64) (byte 2 / 64) (byte 2 % 64) (byte 4 / 8);

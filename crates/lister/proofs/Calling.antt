@@ -19,7 +19,7 @@ use Rattle.slot.specs.Sound.{sound}
 use Rattle.lister.specs.declared.Listing.{Listing}
 use Rattle.lister.specs.declared.Why.the-variants.{Refused}
 use Rattle.lister.specs.Listing as room
-use Rattle.lister.specs.Listing.{Stopped, listed, endedAs, begun, listing, after, endText, ending}
+use Rattle.lister.specs.Listing.{Stopped, listed, endedAs, begun, listing, listingAfter, endText, ending}
 
 pub not-true : (b : Bool) → not b ≡ true → b ≡ false
 not-true true e = cc
@@ -31,16 +31,16 @@ not-false false e = cc
 
 module _ (l : Listing) (store taken output : List ℕ) where
   abbrev all-of-it : Stopped
-  all-of-it = listed (length taken) (room.within output) (begun l store taken)
+  all-of-it = listed (length taken) (room.hasRoom output) (begun l store taken)
 
   pub at-state : not (sound Extended (l .slots)) ≡ true
-      → after (record { listing = l; why = Refused State; used = 0; written = 0 }) store output ≡ listing l store taken output
+      → listingAfter (record { listing = l; why = Refused State; used = 0; written = 0 }) store output ≡ listing l store taken output
   unfolding listing
   at-state h = ap (endedAs l store taken output) (stop State _ all-of-it (not-true _ h))
 
   module _ (ok : not (sound Extended (l .slots)) ≡ false) where
     pub at-store : length store ≢ 32768
-        → after (record { listing = l; why = Refused Store; used = 0; written = 0 }) store output ≡ listing l store taken output
+        → listingAfter (record { listing = l; why = Refused Store; used = 0; written = 0 }) store output ≡ listing l store taken output
     unfolding listing
     at-store h = ap (endedAs l store taken output) (pass State _ all-of-it (not-false _ ok) (stop Store _ all-of-it (ne-eqb _ _ h)))
 
@@ -53,7 +53,7 @@ module _ (l : Listing) (store taken output : List ℕ) where
 
 module _ (l : Listing) (stops : Bool) (output : List ℕ) (n : ℕ) (bytes : List ℕ) (eb : bytes ≡ endText stops (l .count)) (en : n ≡ length (endText stops (l .count))) where
   abbrev ends : Result ℕ → List ℕ → Type 0
-  ends r last = (r ≡ answer (ending l stops (length output))) × (last ≡ over.after (ending l stops (length output)) output)
+  ends r last = (r ≡ answer (ending l stops (length output))) × (last ≡ over.outputAfter (ending l stops (length output)) output)
 
   pub has-room : within output 0 bytes ≡ true → (last : List ℕ) → last ≡ copied output 0 bytes → ends (value n) last
   unfolding ending within copied written

@@ -1,6 +1,6 @@
 -- Document 01's example of the listing holds of the definitions, by computing.
 use mathlib.Core.Path.{refl}
-use Rattle.format.specs.Tests.{all, allAfter}
+use Rattle.format.specs.Tests.{allTrue, allAfter}
 use Rattle.format.specs.Formats.{inRange}
 use Rattle.format.specs.Refusals.{guarded}
 use Rattle.copying.specs.Copy.{written}
@@ -13,15 +13,15 @@ use Rattle.station.specs.Stations.{area, withArea}
 use Rattle.station.specs.Receive.{stepAt, deliver, receive}
 use Rattle.station.specs.Open.{opening}
 use Rattle.trace.specs.Records.{recordAt}
-use Rattle.trace.specs.Lines.{digits, decimal, field, fields, header, frameLine, refusedLine, stoppedLine, countLine}
+use Rattle.trace.specs.Lines.{digits, decimal, field, fields, headerLine, frameLine, refusedLine, stoppedLine, countLine}
 use Rattle.lister.specs.Listing.{heard, listedOne, listed}
 use Rattle.lister.specs.Claims.{program}
 use Rattle.lister.specs.Examples.{EmptyInput, Example}
 
 pub empty-input : EmptyInput
-unfolding EmptyInput program listed recordAt header countLine field decimal digits
+unfolding EmptyInput program listed recordAt headerLine countLine field decimal digits
 empty-input = refl
 
 pub example : Example
-unfolding Example program listed listedOne heard recordAt all allAfter inRange guarded written flagOf layout pieceRule checks judge appended followed stepped step sameFields sameKey place keyInRange fits slotSound slotsSound any keysDiffer sound area withArea stepAt deliver receive opening digits decimal field fields header frameLine refusedLine stoppedLine countLine
+unfolding Example program listed listedOne heard recordAt allTrue allAfter inRange guarded written flagOf layout pieceRule checks judge appended followed stepped step sameFields sameKey place keyInRange fits slotSound slotsSound any keysDiffer sound area withArea stepAt deliver receive opening digits decimal field fields headerLine frameLine refusedLine stoppedLine countLine
 example = refl

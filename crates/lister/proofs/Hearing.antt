@@ -36,7 +36,7 @@ use Rattle.slot.proofs.Keys.{same-key-refl}
 use Rattle.station.specs.declared.Turn.{Turn}
 use Rattle.station.specs.Stations.{soundStation}
 use Rattle.station.specs.Receive.{After, unchanged, keyOf, progressOf, receive, afterTurn}
-use Rattle.station.specs.Open.{Handed, opening}
+use Rattle.station.specs.Open.{StationAfter, opening}
 use Rattle.station.specs.Parts.{frameOf, Steps}
 use Rattle.station.proofs.Calls.{good, is-found}
 use Rattle.station.proofs.Soundness.{met}
@@ -44,8 +44,8 @@ use Rattle.station.proofs.Steps.{judged-start}
 use Rattle.station.proofs.Turning.{turnOf, names-first, at-none, at-slot}
 use Rattle.station.proofs.Handing.{open-taken, open-full, open-lowest}
 use Rattle.trace.specs.declared.Line.the-variants as line
-use Rattle.trace.specs.Lines.{listed, lineText, lineInRange}
-use Rattle.lister.specs.Listing.{stationOf, openedFor, heard}
+use Rattle.trace.specs.Lines.{extendedInRange, lineText, lineInRange}
+use Rattle.lister.specs.Listing.{extendedStation, openedFor, heard}
 use Rattle.lister.specs.Parts.{Heads, Tells}
 
 -- ---- what a head says of the frame
@@ -64,7 +64,7 @@ module _ (bus : ℕ) (b : bus ≤ 1) (head : Head) (image : List ℕ) (h : Heads
       let t = each _ (is-image .sound) in
       from-each _ (le-leb bus 1 b, (ap (sameFormat Extended) (is-image .of-format), (t .0, tt)))
 
-  are-listed : (fs : Fields) → formatOf fs ≡ Extended → inRange fs ≡ true → listed fs ≡ true
+  are-listed : (fs : Fields) → formatOf fs ≡ Extended → inRange fs ≡ true → extendedInRange fs ≡ true
   are-listed (fields.Extended p s g d f) e r = r
   are-listed (fields.Standard p a s) e r = let z : _≡_ {A = ℕ} 0 1 = cc in absurd (omega arith)
 
@@ -84,7 +84,7 @@ module _ (bus : ℕ) (b : bus ≤ 1) (head : Head) (image : List ℕ) (h : Heads
 module _ (slots : List Slot) (store : List ℕ) (bus : ℕ) (image : List ℕ) (s : sound Extended slots ≡ true) (w : length store ≡ 32768) (b : bus ≤ 1) where
   -- an image refused by 1 to 5
   pub at-refused : (own : Refusal) → refused (number own) ≡ judge Extended image
-      → heard (stationOf slots) store bus image ≡ unchanged (stationOf slots) store (refused (number own))
+      → heard (extendedStation slots) store bus image ≡ unchanged (extendedStation slots) store (refused (number own))
   unfolding heard receive guarded
   at-refused own e = simp (sym e, s, eq-eqb (length store) 32768 w, le-leb bus 1 b)
 
@@ -92,53 +92,53 @@ module _ (slots : List Slot) (store : List ℕ) (bus : ℕ) (image : List ℕ) (
     abbrev key : Key
     key = keyOf bus (judged .frame)
 
-    opened : (r : Handed) → r ≡ opening (stationOf slots) key → receive (r .station) store bus image ≡ heard (stationOf slots) store bus image
+    opened : (r : StationAfter) → r ≡ opening (extendedStation slots) key → receive (r .station) store bus image ≡ heard (extendedStation slots) store bus image
     unfolding heard
     opened r o =
-        ap (λ (x : Handed). receive (x .station) store bus image) o
-        ∙ ap (λ (j : Result Judged). receive (openedFor (stationOf slots) bus j) store bus image) e
+        ap (λ (x : StationAfter). receive (x .station) store bus image) o
+        ∙ ap (λ (j : Result Judged). receive (openedFor (extendedStation slots) bus j) store bus image) e
 
     -- the key is open
     pub at-open : (i : ℕ) → i ≡ place (hasKey key) slots → i < 16 → (r : Turn) (last : List ℕ)
-        → Steps Extended (slotAt slots i) i key (judged .frame) store r last → afterTurn Extended slots r last ≡ heard (stationOf slots) store bus image
+        → Steps Extended (slotAt slots i) i key (judged .frame) store r last → afterTurn Extended slots r last ≡ heard (extendedStation slots) store bus image
     at-open i p h r last t =
         at-slot Extended slots store bus image s w b judged e i (sym p) h r last t
-        ∙ opened _ (open-taken (stationOf slots) key s range (omega (arith, p, h)))
+        ∙ opened _ (open-taken (extendedStation slots) key s range (omega (arith, p, h)))
 
     module _ (far : 16 ≤ place (hasKey key) slots) where
       -- no slot is left for it
-      pub at-full : 16 ≤ place isClosed slots → afterTurn Extended slots (turnOf 0 (slotAt slots 0) Filtered) store ≡ heard (stationOf slots) store bus image
+      pub at-full : 16 ≤ place isClosed slots → afterTurn Extended slots (turnOf 0 (slotAt slots 0) Filtered) store ≡ heard (extendedStation slots) store bus image
       at-full full =
           at-none Extended slots store bus image (names-first slots) s w b judged e (place (hasKey key) slots) refl far
-          ∙ opened _ (open-full (stationOf slots) key s range far full)
+          ∙ opened _ (open-full (extendedStation slots) key s range far full)
 
       -- it is opened
       module _ (i : ℕ) (p : i ≡ place isClosed slots) (h : i < 16) where
         abbrev now-open : List Slot
         now-open = set slots i (openSlot key Idle)
 
-        o : _≡_ {A = Handed} (record { answer = value i; station = stationOf now-open }) (opening (stationOf slots) key)
-        o = open-lowest (stationOf slots) key s range far i p h
+        o : _≡_ {A = StationAfter} (record { answer = value i; station = extendedStation now-open }) (opening (extendedStation slots) key)
+        o = open-lowest (extendedStation slots) key s range far i p h
 
         still-sound : sound Extended now-open ≡ true
-        still-sound = ap (λ (x : Handed). soundStation (x .station)) o ∙ met .opened (stationOf slots) key i (sym (ap (λ (x : Handed). x .answer) o)) .0
+        still-sound = ap (λ (x : StationAfter). soundStation (x .station)) o ∙ met .opened (extendedStation slots) key i (sym (ap (λ (x : StationAfter). x .answer) o)) .0
 
         inside : i < length slots
-        inside = omega (arith, h, good (stationOf slots) store s (eq-eqb _ _ w) .sixteen)
+        inside = omega (arith, h, good (extendedStation slots) store s (eq-eqb _ _ w) .sixteen)
 
         is-there : slotAt now-open i ≡ openSlot key Idle
         is-there = getD-set-same slots i (openSlot key Idle) closedSlot inside
 
         placed : place (hasKey key) now-open ≡ i
         placed =
-            eqb-true _ _ (sym (is-found (stationOf now-open) store (good (stationOf now-open) store still-sound (eq-eqb _ _ w)) key i h)
+            eqb-true _ _ (sym (is-found (extendedStation now-open) store (good (extendedStation now-open) store still-sound (eq-eqb _ _ w)) key i h)
             ∙ ap (hasKey key) is-there ∙ same-key-refl key)
 
         pub at-new : (r : Turn) (last : List ℕ) → Steps Extended (openSlot key Idle) i key (judged .frame) store r last
-            → afterTurn Extended slots r last ≡ heard (stationOf slots) store bus image
+            → afterTurn Extended slots r last ≡ heard (extendedStation slots) store bus image
         at-new r last t =
             let again : set now-open (r .at) (r .slot) ≡ set slots (r .at) (r .slot) = rw (t .at) (set-set slots i (openSlot key Idle) (r .slot)) in
-            ap (λ (x : List Slot). record { answer = meaning (r .answer); station = stationOf x; store = last }) (sym again)
+            ap (λ (x : List Slot). record { answer = meaning (r .answer); station = extendedStation x; store = last }) (sym again)
             ∙ at-slot Extended now-open store bus image still-sound w b judged e i placed h r last
             (subst (λ (x : Slot). Steps Extended x i key (judged .frame) store r last) (sym is-there) t)
             ∙ opened _ o
@@ -169,7 +169,7 @@ module _ (slots : List Slot) (store : List ℕ) (ordinal bus : ℕ) (image : Lis
       }
 
   pub tells-frame : (head : Head) → Heads head image → (r : Turn) (last : List ℕ) → r .at < 16
-      → afterTurn Extended slots r last ≡ heard (stationOf slots) store bus image
+      → afterTurn Extended slots r last ≡ heard (extendedStation slots) store bus image
       → (count : ℕ) → count ≡ length image - head .start
       → Tells slots store ordinal bus image
       (record { at = r .at; slot = r .slot; line = line.Frame ordinal bus (head .fields) (head .flag) (head .number) count (r .answer) }) last

@@ -21,7 +21,7 @@ use Rattle.trace.specs.Claims.{Sized, Arriving}
 use Rattle.trace.proofs.Arriving.{sized, arriving}
 use Rattle.lister.specs.declared.Why.{Why}
 use Rattle.lister.specs.declared.Why.the-variants as why
-use Rattle.lister.specs.Listing.{newListing, stationOf, heard, lineFor, next, Stand, listedOne, room, Stopped, stopped, listedBy, listed, within, begun, meaning}
+use Rattle.lister.specs.Listing.{newListing, extendedStation, heard, lineFor, next, Stand, listedOne, room, Stopped, stopped, listedBy, listed, hasRoom, begun, meaning}
 use Rattle.lister.specs.Claims.{soundListing, listingAt, everything, program, printed, Part, arrived, called, inParts, InParts, Printed, OneWhy}
 use Rattle.lister.proofs.Rounds.{enough, unrolled}
 use Rattle.lister.proofs.Soundness.{listed-good, is-listed, rest-is, text-is}
@@ -44,7 +44,7 @@ all-behind t r = stopped (r .why) (behind t (r .stand))
 one-behind : (t : List ℕ) (s : Stand) (bus : ℕ) (image : List ℕ) (size : ℕ) → listedOne (behind t s) bus image size ≡ behind t (listedOne s bus image size)
 unfolding listedOne
 one-behind t s bus image size =
-    let r = heard (stationOf (s .slots)) (s .store) bus image in
+    let r = heard (extendedStation (s .slots)) (s .store) bus image in
     ap (λ (x : List ℕ). record { slots = r .station .slots; store = r .store; count = next (s .count); rest = drop size (s .rest); text = x })
     (append-assoc t (s .text) (lineFor (next (s .count)) bus (judge Extended image) (r .answer)))
 
@@ -75,7 +75,7 @@ one-plus : (s : Stand) (more : List ℕ) (bus : ℕ) (image : List ℕ) (size : 
     → listedOne (plus s more) bus image size ≡ plus (listedOne s bus image size) more
 unfolding listedOne
 one-plus s more bus image size h =
-    let r = heard (stationOf (s .slots)) (s .store) bus image in
+    let r = heard (extendedStation (s .slots)) (s .store) bus image in
     ap (λ (x : List ℕ). record {
       slots = r .station .slots;
       store = r .store;
@@ -121,7 +121,7 @@ go-on (suc n) space s more = go (recordAt (s .rest)) refl (λ s′. go-on n spac
 
 -- a call hands back where it stopped
 called-is : (s : Stand) (part : Part) → soundListing (listingAt s) ≡ true → fullSize (s .store) ≡ true
-    → called s part ≡ behind (s .text) (listed (length (s .rest ++ part .bytes)) (within (part .output)) (begun (listingAt s) (s .store) (s .rest ++ part .bytes)) .stand)
+    → called s part ≡ behind (s .text) (listed (length (s .rest ++ part .bytes)) (hasRoom (part .output)) (begun (listingAt s) (s .store) (s .rest ++ part .bytes)) .stand)
 unfolding called
 called-is s part ok full =
     let taken = s .rest ++ part .bytes in
@@ -142,13 +142,13 @@ in-parts s [] ok full = ap (λ (l : List ℕ). everything (record { slots = s .s
 in-parts s (part ∷ parts) ok full =
     let taken = s .rest ++ part .bytes in
     let first = begun (listingAt s) (s .store) taken in
-    let r = listed (length taken) (within (part .output)) first .stand in
+    let r = listed (length taken) (hasRoom (part .output)) first .stand in
     let more = arrived parts in
-    let good = listed-good (length taken) (within (part .output)) first (record { slots = ok; store = eqb-true _ _ full }) .0 in
+    let good = listed-good (length taken) (hasRoom (part .output)) first (record { slots = ok; store = eqb-true _ _ full }) .0 in
     ap (λ (l : List ℕ). everything (record { slots = s .slots; store = s .store; count = s .count; rest = l; text = s .text })) (sym (append-assoc (s .rest) (part .bytes) more))
     ∙ ap (λ (l : List ℕ). everything (record { slots = s .slots; store = s .store; count = s .count; rest = taken ++ more; text = l })) (sym (append-nil (s .text)))
     ∙ listed-behind (s .text) (length (taken ++ more)) (plus first more)
-    ∙ ap (all-behind (s .text)) (go-on (length taken) (within (part .output)) first more)
+    ∙ ap (all-behind (s .text)) (go-on (length taken) (hasRoom (part .output)) first more)
     ∙ sym (listed-behind (s .text) (length (r .rest ++ more)) (plus r more))
     ∙ in-parts (behind (s .text) r) parts (good .slots) (eq-eqb _ _ (good .store))
     ∙ ap (λ (x : Stand). everything (inParts x parts)) (sym (called-is s part ok full))

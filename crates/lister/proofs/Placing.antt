@@ -13,7 +13,7 @@ use Rattle.copying.proofs.Copying.{written-length}
 use Rattle.format.specs.declared.Refusal.the-variants.{Field, Room}
 use Rattle.format.specs.Refusals.{Result, value, refused}
 use Rattle.format.proofs.Checks.{pass, none-left}
-use Rattle.packet.specs.Send.{answer, after}
+use Rattle.packet.specs.Send.{answer, outputAfter}
 use Rattle.trace.specs.declared.Line.{Line}
 use Rattle.trace.specs.Lines.{lineText, lineInRange, writing}
 use Rattle.trace.specs.Claims.{Longest}
@@ -68,7 +68,7 @@ module _ (line : Line) (output : List ℕ) (at : ℕ) (ok : lineInRange line ≡
       let none : drop (length output - at) (drop at output) ≡ [] = drop-of-length-le (drop at output) {i = length output - at} (omega (arith, length-drop at output)) in
       rw (none, append-nil, part-is, drop-drop)
 
-  pub line-added : (n : ℕ) (last : List ℕ) → value n ≡ answer (writing line (length part)) → last ≡ after (writing line (length part)) part
+  pub line-added : (n : ℕ) (last : List ℕ) → value n ≡ answer (writing line (length part)) → last ≡ outputAfter (writing line (length part)) part
       → Adds (lineText line) output at (at + n) (putMid at (length output - at) output last)
   line-added n last e el =
       rw (length-is n e, el, fits, whole-is) (adds (lineText line) output at (omega (arith, short)))

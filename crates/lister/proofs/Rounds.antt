@@ -22,7 +22,7 @@ use Rattle.slot.specs.Sound.{sound, keyInRange}
 use Rattle.station.specs.declared.Station.{Station}
 use Rattle.station.specs.Stations.{soundStation}
 use Rattle.station.specs.Receive.{After, keyOf, receive}
-use Rattle.station.specs.Open.{Handed, handed, opening}
+use Rattle.station.specs.Open.{StationAfter, changedAt, opening}
 use Rattle.station.specs.Demands.{StaysSound}
 use Rattle.station.proofs.Calls.{Good, good, stays-sound}
 use Rattle.station.proofs.Isolation.{after-call}
@@ -40,12 +40,12 @@ use Rattle.lister.specs.declared.Listed.{Listed}
 use Rattle.lister.specs.declared.Told.{Told}
 use Rattle.lister.specs.declared.Why.{Why}
 use Rattle.lister.specs.declared.Why.the-variants as why
-use Rattle.lister.specs.Listing.{stationOf, openedFor, heard, lineFor, next, Stand, listedOne, Reason, input, room, damage, Stopped, stopped, listedBy, listed, within, endedAs, begun, meaning, after}
+use Rattle.lister.specs.Listing.{extendedStation, openedFor, heard, lineFor, next, Stand, listedOne, Reason, input, room, damage, Stopped, stopped, listedBy, listed, hasRoom, endedAs, begun, meaning, listingAfter}
 use Rattle.lister.specs.Parts.{Tells, Adds}
 
 -- ---- what hearing a record keeps
 
-handed-format : (station : Station) (slot : Slot) (r : Result ℕ) → handed station slot r .station .format ≡ station .format
+handed-format : (station : Station) (slot : Slot) (r : Result ℕ) → changedAt station slot r .station .format ≡ station .format
 handed-format station slot (refused n) = refl
 handed-format station slot (value i) = refl
 
@@ -73,13 +73,13 @@ pub record Keeps (r : After) : Type 0 where
   pub store : length (r .store) ≡ 32768
 
 pub kept : (slots : List Slot) (store : List ℕ) (bus : ℕ) (image : List ℕ) → sound Extended slots ≡ true → length store ≡ 32768
-    → Keeps (heard (stationOf slots) store bus image)
+    → Keeps (heard (extendedStation slots) store bus image)
 unfolding heard
 kept slots store bus image s w =
     let j = judge Extended image in
-    let station = openedFor (stationOf slots) bus j in
-    let c = after-call station store (good station store (opened-sound (stationOf slots) bus j s) (eq-eqb _ _ w)) bus image in
-    let f : receive station store bus image .station .format ≡ Extended = c .1 ∙ opened-format (stationOf slots) bus j in
+    let station = openedFor (extendedStation slots) bus j in
+    let c = after-call station store (good station store (opened-sound (extendedStation slots) bus j s) (eq-eqb _ _ w)) bus image in
+    let f : receive station store bus image .station .format ≡ Extended = c .1 ∙ opened-format (extendedStation slots) bus j in
     record { slots = rw f at (stays-sound _ _ (c .0)); store = c .0 .whole }
 
 -- ---- rounds
@@ -135,8 +135,8 @@ pub record Midst (slots₀ : List Slot) (count₀ : ℕ) (store₀ taken output�
   pub in-output : written ≤ length output₀
   pub size : length output ≡ length output₀
   pub tail : drop written output ≡ drop written output₀
-  pub going : listed (length taken) (within output₀) (begun (beginning slots₀ count₀) store₀ taken)
-      ≡ listed (length taken - used) (within output₀) (stand slots store count taken used output written)
+  pub going : listed (length taken) (hasRoom output₀) (begun (beginning slots₀ count₀) store₀ taken)
+      ≡ listed (length taken - used) (hasRoom output₀) (stand slots store count taken used output written)
 
 pub midst : (slots : List Slot) (count : ℕ) (store taken output : List ℕ) → sound Extended slots ≡ true → length store ≡ 32768
     → Midst slots count store taken output slots count store output 0 0
@@ -152,21 +152,21 @@ module _ {slots₀ : List Slot} {count₀ : ℕ} {store₀ taken output₀ : Lis
   left = length-drop used taken
 
   -- what the next round does
-  next-round : listed (length taken - used) (within output₀) here
-      ≡ listedBy (within output₀) here (recordAt (drop used taken)) (listed (length taken - used - 1) (within output₀))
-  next-round = unrolled (length taken - used) (within output₀) here (omega (arith, left))
+  next-round : listed (length taken - used) (hasRoom output₀) here
+      ≡ listedBy (hasRoom output₀) here (recordAt (drop used taken)) (listed (length taken - used - 1) (hasRoom output₀))
+  next-round = unrolled (length taken - used) (hasRoom output₀) here (omega (arith, left))
 
   text-size : length (take written output) ≡ written
   text-size = length-take-le written output (omega (arith, m .in-output, m .size))
 
   abbrev Ends : Why → Type 0
   Ends w =
-      after (record { listing = beginning slots count; why = w; used = used; written = written }) store output
-      ≡ endedAs (beginning slots₀ count₀) store₀ taken output₀ (value (listed (length taken) (within output₀) (begun (beginning slots₀ count₀) store₀ taken)))
+      listingAfter (record { listing = beginning slots count; why = w; used = used; written = written }) store output
+      ≡ endedAs (beginning slots₀ count₀) store₀ taken output₀ (value (listed (length taken) (hasRoom output₀) (begun (beginning slots₀ count₀) store₀ taken)))
 
   -- it stops
   stops : (w : Why) (why : Reason) → meaning w ≡ value why
-      → listedBy (within output₀) here (recordAt (drop used taken)) (listed (length taken - used - 1) (within output₀)) ≡ stopped why here → Ends w
+      → listedBy (hasRoom output₀) here (recordAt (drop used taken)) (listed (length taken - used - 1) (hasRoom output₀)) ≡ stopped why here → Ends w
   stops w why e q =
       let used-is : length taken - length (drop used taken) ≡ used = omega (arith, left, m .in-input) in
       let output-is : take written output ++ drop (length (take written output)) output₀ ≡ output =
@@ -195,8 +195,8 @@ module _ {slots₀ : List Slot} {count₀ : ℕ} {store₀ taken output₀ : Lis
 
     -- its line has room
     this : 96 ≤ length output - written
-        → listedBy (within output₀) here (recordAt (drop used taken)) (listed (length taken - used - 1) (within output₀))
-        ≡ listed (length taken - used - 1) (within output₀) (listedOne here bus image size)
+        → listedBy (hasRoom output₀) here (recordAt (drop used taken)) (listed (length taken - used - 1) (hasRoom output₀))
+        ≡ listed (length taken - used - 1) (hasRoom output₀) (listedOne here bus image size)
     this h =
         let n : length (take written output) + 96 ≤ length output₀ = omega (arith, text-size, m .size, m .in-output, h) in
         rw (← e, le-leb (length (take written output) + 96) (length output₀) n)
@@ -217,7 +217,7 @@ module _ {slots₀ : List Slot} {count₀ : ℕ} {store₀ taken output₀ : Lis
         let k = kept slots store bus image (m .ok) (m .full) in
         let short = longest (t .line) (tell .range) in
         let rest-is : drop (used + size) taken ≡ drop size (drop used taken) = sym (drop-drop size used taken) in
-        let text-is : take r final ≡ take written output ++ lineFor (next count) bus (judge Extended image) (heard (stationOf slots) store bus image .answer) =
+        let text-is : take r final ≡ take written output ++ lineFor (next count) bus (judge Extended image) (heard (extendedStation slots) store bus image .answer) =
         add .head ∙ ap (λ (x : List ℕ). take written output ++ x) (rw eo at (tell .text)) in
         record {
           ok = rw (tell .slots′) (k .slots);
@@ -227,7 +227,7 @@ module _ {slots₀ : List Slot} {count₀ : ℕ} {store₀ taken output₀ : Lis
           size = add .size ∙ m .size;
           tail = add .tail ∙ further r (length (lineText (t .line))) (add .place);
           going = m .going ∙ next-round ∙ this h ∙ enough _ _ _ _ (omega (arith, rest-left, fits .0)) (omega (arith, rest-left))
-              ∙ ap (listed (length taken - (used + size)) (within output₀)) (λ i. record { slots = sym (tell .slots′) i; store = sym (tell .store′) i; count = sym eo i; rest = sym rest-is i; text = sym text-is i });
+              ∙ ap (listed (length taken - (used + size)) (hasRoom output₀)) (λ i. record { slots = sym (tell .slots′) i; store = sym (tell .store′) i; count = sym eo i; rest = sym rest-is i; text = sym text-is i });
         }
 
 -- ---- what the code reads

@@ -17,7 +17,7 @@ use Rattle.trace.specs.Records.{Found, whole, damaged, cut, none, recordAt}
 use Rattle.trace.specs.Claims.{Sized}
 use Rattle.trace.proofs.Arriving.{sized}
 use Rattle.lister.specs.declared.Listing.{Listing}
-use Rattle.lister.specs.Listing.{newListing, Stand, listedOne, Reason, room, Stopped, stopped, listedBy, listed, within, Ended, endedAs, begun, listing}
+use Rattle.lister.specs.Listing.{newListing, Stand, listedOne, Reason, room, Stopped, stopped, listedBy, listed, hasRoom, Ended, endedAs, begun, listing}
 use Rattle.lister.specs.Claims.{soundListing, listingAt, Part, called, StaysSound}
 use Rattle.lister.proofs.Rounds.{kept}
 use Rattle.lister.proofs.Calling.{at-all}
@@ -78,13 +78,13 @@ listed-good (suc n) space s g = go (recordAt (s .rest)) refl (λ s′ h. listed-
 
 module _ (l : Listing) (store taken output : List ℕ) (ok : soundListing l ≡ true) (full : fullSize store ≡ true) where
   abbrev done : Stopped
-  done = listed (length taken) (within output) (begun l store taken)
+  done = listed (length taken) (hasRoom output) (begun l store taken)
 
   pub is-listed : endedAs l store taken output (value done) ≡ listing l store taken output
   is-listed = at-all l store taken output (ap not ok) (eqb-true _ _ full)
 
   still : (Good (done .stand)) × (Taken taken (done .stand))
-  still = listed-good (length taken) (within output) (begun l store taken) (record { slots = ok; store = eqb-true _ _ full })
+  still = listed-good (length taken) (hasRoom output) (begun l store taken) (record { slots = ok; store = eqb-true _ _ full })
 
   pub keeps-sound : soundListing (listing l store taken output .listing) ≡ true
   keeps-sound = rw (← is-listed) (still .0 .slots)

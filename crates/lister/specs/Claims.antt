@@ -9,15 +9,15 @@ use lib.ListN.{length, take, drop}
 use Rattle.format.specs.Refusals.{refused}
 use Rattle.station.specs.Stations.{soundStation, fullSize}
 use Rattle.trace.specs.Records.{Found, whole, damaged, cut, none, recordAt}
-use Rattle.trace.specs.Lines.{header}
+use Rattle.trace.specs.Lines.{headerLine}
 use Rattle.lister.specs.declared.Listing.{Listing}
 use Rattle.lister.specs.declared.Why.{Why}
-use Rattle.lister.specs.Listing.{newListing, stationOf, Stand, Stopped, listed, begun, Ended, listing, endText, meaning}
+use Rattle.lister.specs.Listing.{newListing, extendedStation, Stand, Stopped, listed, begun, Ended, listing, endText, meaning}
 
 -- ---- the program
 
 abbrev pub soundListing : Listing → Bool
-soundListing l = soundStation (stationOf (l .slots))
+soundListing l = soundStation (extendedStation (l .slots))
 
 abbrev pub listingAt : Stand → Listing
 listingAt s = record { slots = s .slots; count = s .count }
@@ -36,7 +36,7 @@ stopsAt (whole bus image size) = false
 
 -- "It prints the header, one line a record, and the count", and of a damaged record "its number and "stopped""
 abbrev pub printed : Stand → List ℕ
-printed s = header ++ (s .text ++ endText (stopsAt (recordAt (s .rest))) (s .count))
+printed s = headerLine ++ (s .text ++ endText (stopsAt (recordAt (s .rest))) (s .count))
 
 -- the whole output for a whole input; the store is a full-size one, whose bytes no line shows
 unfoldable pub program : (store taken : List ℕ) → List ℕ

@@ -29,8 +29,8 @@ abbrev pub newListing : Listing
 newListing = record { slots = replicate 16 closedSlot; count = 0 }
 
 -- "The listing program reads extended frames"
-abbrev pub stationOf : List Slot → Station
-stationOf slots = record { format = Extended; slots = slots }
+abbrev pub extendedStation : List Slot → Station
+extendedStation slots = record { format = Extended; slots = slots }
 
 -- ---- one record
 
@@ -66,13 +66,13 @@ pub record Stand : Type 0 where
 unfoldable pub listedOne : Stand → (bus : ℕ) → List ℕ → (size : ℕ) → Stand
 listedOne s bus image size =
     let r : ℕ = next (s .count) in
-    let after : After = heard (stationOf (s .slots)) (s .store) bus image in
+    let given : After = heard (extendedStation (s .slots)) (s .store) bus image in
     record {
-      slots = after .station .slots;
-      store = after .store;
+      slots = given .station .slots;
+      store = given .store;
       count = r;
       rest = drop size (s .rest);
-      text = s .text ++ lineFor r bus (judge Extended image) (after .answer);
+      text = s .text ++ lineFor r bus (judge Extended image) (given .answer);
     }
 
 -- why no further record was listed: what is left of the input is no whole record; the output might not have room for the next line;
@@ -103,8 +103,8 @@ listed zero space s = stopped input s
 listed (suc rounds) space s = listedBy space s (recordAt (s .rest)) (listed rounds space)
 
 -- the longest line has 96 bytes at most
-abbrev pub within : (output : List ℕ) → ℕ → Bool
-within output n = leb (n + 96) (length output)
+abbrev pub hasRoom : (output : List ℕ) → ℕ → Bool
+hasRoom output n = leb (n + 96) (length output)
 
 -- ---- the call
 
@@ -139,8 +139,8 @@ begun l store taken = record { slots = l .slots; store = store; count = l .count
 unfoldable pub listing : Listing → (store taken output : List ℕ) → Ended
 listing l store taken output =
     endedAs l store taken output
-    (guarded (check State (soundStation (stationOf (l .slots))) ∷ check Store (fullSize store) ∷ [])
-    (listed (length taken) (within output) (begun l store taken)))
+    (guarded (check State (soundStation (extendedStation (l .slots))) ∷ check Store (fullSize store) ∷ [])
+    (listed (length taken) (hasRoom output) (begun l store taken)))
 
 -- what the code hands back, and the store and the output afterwards, say
 abbrev pub meaning : Why → Result Reason
@@ -149,8 +149,8 @@ meaning why.Room = value room
 meaning why.Damaged = value damage
 meaning (why.Refused name) = refused (number name)
 
-abbrev pub after : Listed → (store output : List ℕ) → Ended
-after r store output =
+abbrev pub listingAfter : Listed → (store output : List ℕ) → Ended
+listingAfter r store output =
     record {
       why = meaning (r .why);
       listing = r .listing;

@@ -28,13 +28,13 @@ ghost use Rattle.format.specs.declared.Format.the-variants.{Extended};
 ghost use Rattle.format.specs.Refusals.{value};
 ghost use Rattle.format.specs.Refusals.{meaning as outcome·meaning};
 ghost use Rattle.packet.specs.Send.{answer};
-ghost use Rattle.packet.specs.Send.{after as over·after};
+ghost use Rattle.packet.specs.Send.{outputAfter as over·after};
 ghost use Rattle.frame.specs.Judge.{judge as judge·of};
 ghost use Rattle.slot.specs.Slots.{openSlot};
 ghost use Rattle.slot.specs.Sound.{sound};
 ghost use Rattle.station.specs.Receive.{keyOf, afterTurn};
 ghost use Rattle.station.specs.Parts.{frameOf, Steps};
-ghost use Rattle.lister.specs.Listing.{newListing, stationOf, heard, listed, within, begun, endedAs, listing, after, endText, ending};
+ghost use Rattle.lister.specs.Listing.{newListing, extendedStation, heard, listed, hasRoom, begun, endedAs, listing, listingAfter, endText, ending};
 ghost use Rattle.trace.specs.Lines.{lineText, lineInRange};
 ghost use Rattle.lister.specs.Parts.{Heads, Tells, Adds};
 
@@ -116,7 +116,7 @@ fn step_at(
 fn hear(slots: [Slot; 16], store: &mut [u8], bus: u8, head: Head, image: &[u8]) -> Turn
     requires { ⌜ (sound Extended slots ≡ true) × (length (now store) ≡ 32768) × (bus ≤ 1) × Heads head (now image) ⌝ }
     ensures { λ r. ⌜ r .at < 16 ⌝ }
-    ensures { λ r. ⌜ afterTurn Extended slots r (now (store .exit)) ≡ heard (stationOf slots) (now (store .entry)) bus (now (image .entry)) ⌝ }
+    ensures { λ r. ⌜ afterTurn Extended slots r (now (store .exit)) ≡ heard (extendedStation slots) (now (store .entry)) bus (now (image .entry)) ⌝ }
 {
     let fields = head.fields;
     let key = Key {
@@ -222,7 +222,7 @@ fn ended(slots: [Slot; 16], count: u64, why: Why, used: usize, written: usize) -
 // Lists what stands in the input, in sound slots and with a full-size store.
 fn list_all(listing: Listing, store: &mut [u8], input: &[u8], output: &mut [u8]) -> Listed
     requires { ⌜ (sound Extended (listing .slots) ≡ true) × (length (now store) ≡ 32768) ⌝ }
-    ensures { λ r. ⌜ after r (now (store .exit)) (now (output .exit)) ≡ endedAs listing (now (store .entry)) (now (input .entry)) (now (output .entry)) (value (listed (length (now (input .entry))) (within (now (output .entry))) (begun listing (now (store .entry)) (now (input .entry))))) ⌝ }
+    ensures { λ r. ⌜ listingAfter r (now (store .exit)) (now (output .exit)) ≡ endedAs listing (now (store .entry)) (now (input .entry)) (now (output .entry)) (value (listed (length (now (input .entry))) (hasRoom (now (output .entry))) (begun listing (now (store .entry)) (now (input .entry))))) ⌝ }
 {
     let mut slots = listing.slots;
     let mut count = listing.count;
@@ -267,7 +267,7 @@ impl Listing {
     // Lists the records at the head of the input, over the head of the output, until it stops for
     // one of the reasons in Why. Refuses with STATE or STORE, and then changes nothing.
     pub fn list(self, store: &mut [u8], input: &[u8], output: &mut [u8]) -> Listed
-        ensures { λ r. ⌜ after r (now (store .exit)) (now (output .exit)) ≡ listing self (now (store .entry)) (now (input .entry)) (now (output .entry)) ⌝ }
+        ensures { λ r. ⌜ listingAfter r (now (store .exit)) (now (output .exit)) ≡ listing self (now (store .entry)) (now (input .entry)) (now (output .entry)) ⌝ }
     {
         let slots = self.slots;
         if !slot::sound(Format::Extended, slots) {

@@ -8,24 +8,24 @@ use lib.Dec.{leb}
 use borrow.Author.Tests.{le-leb, lt-leb, eq-eqb}
 use lib.ListN.{length, drop, getD, set, drop-of-length-le}
 use lib.Seq.{drop-cons}
-use Rattle.format.specs.Tests.{all}
+use Rattle.format.specs.Tests.{allTrue}
 use Rattle.format.proofs.Tests.{each, from-each, tests}
 use Rattle.master.specs.Masters.{busesInRange, chosenSound}
 
 -- a scan that has passed i buses
 module _ (l : List ℕ) (i : ℕ) (h : i < length l) where
-  look : busesInRange (drop i l) ≡ all (leb (getD l i 0) 1 ∷ busesInRange (drop (suc i) l) ∷ [])
+  look : busesInRange (drop i l) ≡ allTrue (leb (getD l i 0) 1 ∷ busesInRange (drop (suc i) l) ∷ [])
   unfolding busesInRange
   look = ap busesInRange (drop-cons l i 0 h)
 
   pub bad : 1 < getD l i 0 → busesInRange (drop i l) ≡ false
-  unfolding all
+  unfolding allTrue
   bad e =
       let t : leb (getD l i 0) 1 ≡ false = lt-leb _ _ e in
       look ∙ rw t
 
   pub next : getD l i 0 ≤ 1 → busesInRange (drop i l) ≡ busesInRange (drop (i + 1) l)
-  unfolding all
+  unfolding allTrue
   next e =
       let t : leb (getD l i 0) 1 ≡ true = le-leb _ _ e in
       look ∙ rw (t, add-one)
@@ -42,5 +42,5 @@ set-sound (x ∷ xs) (suc i) bus e h = from-each _ (each _ e .0, (set-sound xs i
 
 -- of 64 buses, only the range is left to test
 pub all-of : (l : List ℕ) → length l ≡ 64 → chosenSound l ≡ busesInRange l
-unfolding chosenSound all
+unfolding chosenSound allTrue
 all-of l n = rw (eq-eqb (length l) 64 n)

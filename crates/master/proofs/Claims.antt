@@ -10,7 +10,7 @@ use lib.ListN.{length, length-set}
 use lib.Seq.{getD-set-same}
 use borrow.Author.Tests.{leb-true, eqb-true, ltb-true, eq-eqb}
 use Rattle.format.specs.Refusals.{Result, value, refused, Check, check, guarded, number}
-use Rattle.format.specs.Tests.{all}
+use Rattle.format.specs.Tests.{allTrue}
 use Rattle.format.proofs.Tests.{each, from-each, tests}
 use Rattle.format.proofs.Checks.{Passed}
 use Rattle.master.specs.declared.Kind.{Kind}
@@ -98,7 +98,7 @@ stays-sound master timeout s =
     either master (λ h. sound (h .master) ≡ true) _ (λ n. s) _ (λ p. expired-sound _ _ (chosen-sound master s) (exchange-sound master s))
 
 pub new-is-sound : NewIsSound
-unfolding NewIsSound sound chosenSound busesInRange exchangeSound all
+unfolding NewIsSound sound chosenSound busesInRange exchangeSound allTrue
 new-is-sound = refl
 
 -- ---- refused calls

@@ -9,7 +9,7 @@ use lib.Dec.{leb}
 use borrow.Author.Tests.{eq-eqb, ne-eqb, lt-ltb, le-ltb, le-leb, lt-leb, leb-true}
 use Rattle.format.specs.declared.Refusal.the-variants as refusal
 use Rattle.format.specs.Refusals.{refused}
-use Rattle.format.specs.Tests.{all}
+use Rattle.format.specs.Tests.{allTrue}
 use Rattle.format.proofs.Tests.{each}
 use Rattle.format.proofs.Checks.{stop, pass, none-left}
 use Rattle.master.specs.declared.Kind.{Kind}
@@ -78,7 +78,7 @@ module _ (master : Master) (kind : Kind) (node : ℕ) where
 
 module _ (master : Master) (bus node function : ℕ) where
   abbrev InRange : Bool → Type 0
-  InRange b = all (leb bus 1 ∷ leb node 63 ∷ leb function 31 ∷ []) ≡ b
+  InRange b = allTrue (leb bus 1 ∷ leb node 63 ∷ leb function 31 ∷ []) ≡ b
 
   abbrev Counts : Bool → Type 0
   Counts b = counts (master .chosen) bus node function (master .activity) ≡ b

@@ -10,7 +10,7 @@ use mathlib.Core.List.{List, [], _∷_}
 use lib.Dec.{leb, ltb, eqb}
 use Rattle.format.specs.declared.Refusal.the-variants as refusal
 use Rattle.format.specs.Refusals.{Result, value, refused, number, check, guarded}
-use Rattle.format.specs.Tests.{all}
+use Rattle.format.specs.Tests.{allTrue}
 use Rattle.master.specs.declared.Kind.{Kind}
 use Rattle.master.specs.declared.Exchange.{Exchange}
 use Rattle.master.specs.declared.Activity.{Activity}
@@ -73,7 +73,7 @@ starting master kind node =
 unfoldable pub counts : List ℕ → ℕ → ℕ → ℕ → Activity → Bool
 counts chosen bus node function Idle = false
 counts chosen bus node function (UnderWay exchange) =
-    all
+    allTrue
     (eqb node (exchange .node)
     ∷ eqb function (planOf (exchange .kind) .awaited)
     ∷ eqb bus (chosenBus chosen (exchange .node))
@@ -85,7 +85,7 @@ replying master bus node function =
     handed master
     (guarded
     (check refusal.State (sound master)
-    ∷ check refusal.Field (all (leb bus 1 ∷ leb node 63 ∷ leb function 31 ∷ []))
+    ∷ check refusal.Field (allTrue (leb bus 1 ∷ leb node 63 ∷ leb function 31 ∷ []))
     ∷ check refusal.Idle (underWay (master .activity))
     ∷ check refusal.NotAwaited (counts (master .chosen) bus node function (master .activity))
     ∷ [])

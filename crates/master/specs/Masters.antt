@@ -7,7 +7,7 @@ use mathlib.Core.Bool.{Bool, true}
 use mathlib.Core.List.{List, [], _∷_}
 use lib.Dec.{leb, eqb}
 use lib.ListN.{length, getD, set, replicate}
-use Rattle.format.specs.Tests.{all}
+use Rattle.format.specs.Tests.{allTrue}
 use Rattle.master.specs.declared.Kind.{Kind}
 use Rattle.master.specs.declared.Kind.the-variants.{Poll, DataBlock, Command}
 use Rattle.master.specs.declared.Plan.{Plan}
@@ -38,16 +38,16 @@ switched chosen node = set chosen node (other (chosenBus chosen node))
 
 unfoldable pub busesInRange : List ℕ → Bool
 busesInRange [] = true
-busesInRange (bus ∷ buses) = all (leb bus 1 ∷ busesInRange buses ∷ [])
+busesInRange (bus ∷ buses) = allTrue (leb bus 1 ∷ busesInRange buses ∷ [])
 
 -- one chosen bus for each of 64 nodes, each 0 or 1
 unfoldable pub chosenSound : List ℕ → Bool
-chosenSound chosen = all (eqb (length chosen) 64 ∷ busesInRange chosen ∷ [])
+chosenSound chosen = allTrue (eqb (length chosen) 64 ∷ busesInRange chosen ∷ [])
 
 unfoldable pub exchangeSound : Activity → Bool
 exchangeSound Idle = true
 exchangeSound (UnderWay exchange) =
-    all (leb (exchange .node) 63 ∷ leb 1 (exchange .sends) ∷ leb (exchange .sends) (planOf (exchange .kind) .total) ∷ [])
+    allTrue (leb (exchange .node) 63 ∷ leb 1 (exchange .sends) ∷ leb (exchange .sends) (planOf (exchange .kind) .total) ∷ [])
 
 unfoldable pub sound : Master → Bool
-sound master = all (chosenSound (master .chosen) ∷ exchangeSound (master .activity) ∷ [])
+sound master = allTrue (chosenSound (master .chosen) ∷ exchangeSound (master .activity) ∷ [])

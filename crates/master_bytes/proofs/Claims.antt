@@ -9,7 +9,7 @@ use lib.Dec.{eqb, leb}
 use lib.ListN.{length, take, drop, getD, length-append, take-append-drop, drop-of-length-le}
 use lib.Seq.{take-at, drop-cons, getD-append-add, length-take-le}
 use Rattle.format.specs.Refusals.{Result, value, refused, Check, guarded}
-use Rattle.format.specs.Tests.{all}
+use Rattle.format.specs.Tests.{allTrue}
 use Rattle.format.proofs.Tests.{each, from-each}
 use Rattle.master.specs.declared.Kind.{Kind}
 use Rattle.master.specs.declared.Kind.the-variants.{Poll, DataBlock, Command}
@@ -35,7 +35,7 @@ abbrev OfBytes : {A : Type 0} → (ℕ → ℕ → ℕ → A) → List ℕ → A
 OfBytes f bytes = f (getD bytes 0 0) (getD bytes 1 0) (getD bytes 2 0)
 
 activity-back : (activity : Activity) → (OfBytes activityOf (activityBytes activity) ≡ activity) × (OfBytes activityWritten (activityBytes activity) ≡ true)
-unfolding activityWritten all
+unfolding activityWritten allTrue
 activity-back Idle = (refl, refl)
 activity-back (UnderWay exchange) =
     let k = kind-back (exchange .kind) in
@@ -56,7 +56,7 @@ activity-again kind node sends = go (eqb kind 0) refl
     exchange : Exchange
     exchange = record { kind = kindOf kind; node = node; sends = sends }
 
-    go : (b : Bool) → eqb kind 0 ≡ b → cond b (all (eqb node 0 ∷ eqb sends 0 ∷ [])) (leb kind 3) ≡ true
+    go : (b : Bool) → eqb kind 0 ≡ b → cond b (allTrue (eqb node 0 ∷ eqb sends 0 ∷ [])) (leb kind 3) ≡ true
         → activityBytes (cond b Idle (UnderWay exchange)) ≡ kind ∷ node ∷ sends ∷ []
     go true e w =
         let tests = each (eqb node 0 ∷ eqb sends 0 ∷ []) w in

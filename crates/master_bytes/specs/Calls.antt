@@ -10,7 +10,7 @@ use Rattle.format.specs.declared.Refusal.the-variants.{Field, State}
 use Rattle.format.specs.declared.Outcome.{Outcome}
 use Rattle.format.specs.Refusals as refusals
 use Rattle.format.specs.Refusals.{Result, value, refused, number, check, guarded}
-use Rattle.format.specs.Tests.{all}
+use Rattle.format.specs.Tests.{allTrue}
 use Rattle.master.specs.declared.Kind.{Kind}
 use Rattle.master.specs.declared.Master.{Master}
 use Rattle.master.specs.declared.Answer.{Answer}
@@ -40,7 +40,7 @@ onState state given = cond (isState state) (handed given) (notState state)
 
 -- a kind is handed in as its number
 abbrev pub isKind : ℕ → Bool
-isKind n = all (leb 1 n ∷ leb n 3 ∷ [])
+isKind n = allTrue (leb 1 n ∷ leb n 3 ∷ [])
 
 -- FIELD: a number that is no kind's; as for every field, after STATE and before BUSY
 abbrev pub kindHandedIn : Master → ℕ → Result Kind

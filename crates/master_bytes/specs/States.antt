@@ -8,7 +8,7 @@ use mathlib.Core.Bool.{Bool, cond}
 use mathlib.Core.List.{List, [], _∷_, _++_}
 use lib.Dec.{leb, eqb}
 use lib.ListN.{length, take, getD}
-use Rattle.format.specs.Tests.{all}
+use Rattle.format.specs.Tests.{allTrue}
 use Rattle.master.specs.declared.Kind.{Kind}
 use Rattle.master.specs.declared.Kind.the-variants.{Poll, DataBlock, Command}
 use Rattle.master.specs.declared.Activity.{Activity}
@@ -45,7 +45,7 @@ masterIn state =
 -- ---- whether bytes are those of a master, sound or not
 
 unfoldable pub activityWritten : (kind node sends : ℕ) → Bool
-activityWritten kind node sends = cond (eqb kind 0) (all (eqb node 0 ∷ eqb sends 0 ∷ [])) (leb kind 3)
+activityWritten kind node sends = cond (eqb kind 0) (allTrue (eqb node 0 ∷ eqb sends 0 ∷ [])) (leb kind 3)
 
 unfoldable pub isState : List ℕ → Bool
-isState state = all (eqb (length state) 67 ∷ activityWritten (getD state 64 0) (getD state 65 0) (getD state 66 0) ∷ [])
+isState state = allTrue (eqb (length state) 67 ∷ activityWritten (getD state 64 0) (getD state 65 0) (getD state 66 0) ∷ [])

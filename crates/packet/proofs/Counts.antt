@@ -7,7 +7,7 @@ use native.Mathlib.Omega.{arith}
 use lib.ListN.{length, take, drop, length-drop}
 use lib.Seq.{take-all}
 use borrow.Author.Tests.{lt-leb, le-leb}
-use Rattle.packet.specs.Split.{pieceCount, pieceBytes}
+use Rattle.packet.specs.Split.{countOf, pieceBytes}
 
 -- a packet of n bytes: each of its pieces begins within it, and together they hold it
 pub record Several (z n count : ℕ) : Type 0 where
@@ -30,8 +30,8 @@ module _ (z n : ℕ) (pos : 0 < z) (small : z ≤ 8) (long : 8 < n) where
         enough = omega arith;
       }
 
-  pub several : Several z n (pieceCount z n)
-  unfolding pieceCount
+  pub several : Several z n (countOf z n)
+  unfolding countOf
   several =
       rw (lt-leb n 8 long)
       (by-quotient ((n + (z - 1)) / z) ((n + (z - 1)) % z) (div-add-mod' (n + (z - 1)) z) (mod-lt (n + (z - 1)) pos))

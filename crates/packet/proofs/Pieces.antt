@@ -24,27 +24,27 @@ use Rattle.frame.specs.Judge.{Frame, pieceRule, judge}
 use Rattle.frame.specs.Image.{imageOf, soundFrame}
 use Rattle.frame.specs.Claims.{ImageIsJudged}
 use Rattle.frame.proofs.Images.{image-is-judged}
-use Rattle.packet.specs.Split.{pieceCount, pieceFlag, pieceBytes, piece, piecesFrom, pieces}
-use Rattle.packet.specs.Send.{countOf}
+use Rattle.packet.specs.Split.{countOf, pieceFlag, pieceBytes, piece, piecesFrom, pieces}
+use Rattle.packet.specs.Send.{pieceCount}
 use Rattle.packet.specs.Claims.{joined, Splitting}
 use Rattle.packet.proofs.Counts.{Several, several, bytes-single, bytes-several}
 
 -- ---- how many bytes a piece carries, over the piece size z
 
 module _ (z : ℕ) (pos : 0 < z) (small : z ≤ 8) (packet : List ℕ) (long : 8 < length packet) (k : ℕ) where
-  m : Several z (length packet) (pieceCount z (length packet))
+  m : Several z (length packet) (countOf z (length packet))
   m = several z (length packet) pos small long
 
   size : length (pieceBytes z packet k) ≡ min z (length packet - z * k)
   size = ap length (bytes-several z packet k long) ∙ simp (length-take, length-drop)
 
-  pub filled-size : suc k < pieceCount z (length packet) → length (pieceBytes z packet k) ≡ z
+  pub filled-size : suc k < countOf z (length packet) → length (pieceBytes z packet k) ≡ z
   filled-size h = omega (arith, size, mul-suc z k, m .within (suc k) h)
 
-  pub last-size : suc k ≡ pieceCount z (length packet) → z * k + length (pieceBytes z packet k) ≡ length packet
+  pub last-size : suc k ≡ countOf z (length packet) → z * k + length (pieceBytes z packet k) ≡ length packet
   last-size h =
       let enough : length packet ≤ z * suc k = rw h (m .enough) in
-      let l : k < pieceCount z (length packet) = omega arith in
+      let l : k < countOf z (length packet) = omega arith in
       omega (arith, size, mul-suc z k, m .within k l)
 
   pub most-size : length (pieceBytes z packet k) ≤ z
@@ -66,13 +66,13 @@ module _ (fields : Fields) (packet : List ℕ) where
       let s : suc k + j ≡ k + suc j = omega arith in nth-piece n (suc k) j (omega arith) other ∙ ap (piece fields packet) s
 
   module _ (long : 8 < length packet) where
-    rest : (n k : ℕ) → k + n ≡ pieceCount (pieceSize (formatOf fields)) (length packet)
+    rest : (n k : ℕ) → k + n ≡ countOf (pieceSize (formatOf fields)) (length packet)
         → joined (piecesFrom fields packet k n) ≡ drop (pieceSize (formatOf fields) * k) packet
     unfolding joined piecesFrom piece
     rest zero k e =
         let z = pieceSize (formatOf fields) in
         let m = several z (length packet) (some-bytes (formatOf fields)) (eight-bytes (formatOf fields)) long in
-        let c : k ≡ pieceCount z (length packet) = omega arith in
+        let c : k ≡ countOf z (length packet) = omega arith in
         sym (drop-of-length-le packet {i = z * k} (rw c (m .enough)))
     rest (suc n) k e =
         let z = pieceSize (formatOf fields) in
@@ -126,8 +126,8 @@ first-number : (fm : Format) → 0 % numberRange fm ≡ 0
 first-number format.Extended = refl
 first-number format.Standard = refl
 
-count-single : (z n : ℕ) → n ≤ 8 → pieceCount z n ≡ 1
-unfolding pieceCount
+count-single : (z n : ℕ) → n ≤ 8 → countOf z n ≡ 1
+unfolding countOf
 count-single z n h = rw (le-leb n 8 h)
 
 pub flag-single : pieceFlag 1 0 ≡ Single
@@ -143,12 +143,12 @@ module _ (fm : Format) (packet : List ℕ) (k : ℕ) where
   Ruled : Type 0
   Ruled =
       let z : ℕ = pieceSize fm in
-      let flag : Flag = pieceFlag (pieceCount z (length packet)) k in
+      let flag : Flag = pieceFlag (countOf z (length packet)) k in
       let bytes : List ℕ = pieceBytes z packet k in
       let n : ℕ = k % numberRange fm in
       pieceRule fm flag (length (cond (numbered fm flag) (n ∷ bytes) bytes)) n ≡ true
 
-  ruled-single : length packet ≤ 8 → k < pieceCount (pieceSize fm) (length packet) → Ruled
+  ruled-single : length packet ≤ 8 → k < countOf (pieceSize fm) (length packet) → Ruled
   unfolding Ruled pieceRule
   ruled-single h i =
       let one = count-single (pieceSize fm) (length packet) h in
@@ -156,18 +156,18 @@ module _ (fm : Format) (packet : List ℕ) (k : ℕ) where
       rw (z, one, flag-single, no-number fm, bytes-single (pieceSize fm) packet 0 h, first-number fm)
       (from-each _ (omega tests))
 
-  ruled-several : 8 < length packet → length packet ≤ packetLimit fm → k < pieceCount (pieceSize fm) (length packet) → Ruled
+  ruled-several : 8 < length packet → length packet ≤ packetLimit fm → k < countOf (pieceSize fm) (length packet) → Ruled
   unfolding Ruled
   ruled-several long small i =
       let z : ℕ = pieceSize fm in
       let some = some-bytes fm in
       let eight = eight-bytes fm in
       let m = several z (length packet) some eight long in
-      rw (data-length, flag-several (pieceCount z (length packet)) k (m .two))
-      (rule fm (length packet) (pieceCount z (length packet)) k (length (pieceBytes z packet k)) long small m i
+      rw (data-length, flag-several (countOf z (length packet)) k (m .two))
+      (rule fm (length packet) (countOf z (length packet)) k (length (pieceBytes z packet k)) long small m i
       (most-size z some eight packet long k) (filled-size z some eight packet long k) (last-size z some eight packet long k) _ _ refl refl)
 
-  ruled : length packet ≤ packetLimit fm → k < pieceCount (pieceSize fm) (length packet) → Ruled
+  ruled : length packet ≤ packetLimit fm → k < countOf (pieceSize fm) (length packet) → Ruled
   ruled small i = go (leb (length packet) 8) refl
     where
       go : (b : Bool) → leb (length packet) 8 ≡ b → Ruled
@@ -178,25 +178,25 @@ few-several : (fm : Format) (n count : ℕ) → Several (pieceSize fm) n count �
 few-several format.Extended n count m h = let i : count - 1 < count = omega (arith, m .two) in omega (arith, m .within (count - 1) i)
 few-several format.Standard n count m h = let i : count - 1 < count = omega (arith, m .two) in omega (arith, m .within (count - 1) i)
 
-few-pieces : (fm : Format) (n : ℕ) → n ≤ packetLimit fm → pieceCount (pieceSize fm) n ≤ 256
+few-pieces : (fm : Format) (n : ℕ) → n ≤ packetLimit fm → countOf (pieceSize fm) n ≤ 256
 few-pieces fm n h = go (leb n 8) refl
   where
-    go : (b : Bool) → leb n 8 ≡ b → pieceCount (pieceSize fm) n ≤ 256
+    go : (b : Bool) → leb n 8 ≡ b → countOf (pieceSize fm) n ≤ 256
     go true e = rw (count-single (pieceSize fm) n (leb-true n 8 e)) (omega arith)
-    go false e = few-several fm n (pieceCount (pieceSize fm) n) (several (pieceSize fm) n (some-bytes fm) (eight-bytes fm) (leb-false n 8 e)) h
+    go false e = few-several fm n (countOf (pieceSize fm) n) (several (pieceSize fm) n (some-bytes fm) (eight-bytes fm) (leb-false n 8 e)) h
 
 -- ---- the claim
 
 module _ (fields : Fields) (packet : List ℕ) (range : inRange fields ≡ true) (small : length packet ≤ packetLimit (formatOf fields)) where
-  count : length (pieces fields packet) ≡ pieceCount (pieceSize (formatOf fields)) (length packet)
+  count : length (pieces fields packet) ≡ countOf (pieceSize (formatOf fields)) (length packet)
   unfolding pieces
-  count = count-pieces fields packet (pieceCount (pieceSize (formatOf fields)) (length packet)) 0
+  count = count-pieces fields packet (countOf (pieceSize (formatOf fields)) (length packet)) 0
 
   listed-piece : (k : ℕ) → k < length (pieces fields packet) → (other : Frame) → getD (pieces fields packet) k other ≡ piece fields packet k
   unfolding pieces
   listed-piece k h other =
-      let i : k < pieceCount (pieceSize (formatOf fields)) (length packet) = rw count at h in
-      nth-piece fields packet (pieceCount (pieceSize (formatOf fields)) (length packet)) 0 k i other ∙ ap (piece fields packet) (zero-add k)
+      let i : k < countOf (pieceSize (formatOf fields)) (length packet) = rw count at h in
+      nth-piece fields packet (countOf (pieceSize (formatOf fields)) (length packet)) 0 k i other ∙ ap (piece fields packet) (zero-add k)
 
   one-piece : length packet ≤ 8 → length (pieces fields packet) ≡ 1
   one-piece h = count ∙ count-single (pieceSize (formatOf fields)) (length packet) h
@@ -249,10 +249,10 @@ module _ (fields : Fields) (packet : List ℕ) (range : inRange fields ≡ true)
   unfolding pieces
   whole-packet = go (leb (length packet) 8) refl
     where
-      go : (b : Bool) → leb (length packet) 8 ≡ b → joined (piecesFrom fields packet 0 (pieceCount (pieceSize (formatOf fields)) (length packet))) ≡ packet
+      go : (b : Bool) → leb (length packet) 8 ≡ b → joined (piecesFrom fields packet 0 (countOf (pieceSize (formatOf fields)) (length packet))) ≡ packet
       go true e = let h = leb-true (length packet) 8 e in rw (count-single (pieceSize (formatOf fields)) (length packet) h) (single h)
       go false e =
-          rest fields packet (leb-false (length packet) 8 e) (pieceCount (pieceSize (formatOf fields)) (length packet)) 0 (omega arith)
+          rest fields packet (leb-false (length packet) 8 e) (countOf (pieceSize (formatOf fields)) (length packet)) 0 (omega arith)
           ∙ rw mul-zero
 
   filled-piece : (k : ℕ) → k + 1 < length (pieces fields packet) → length (piece fields packet k .bytes) ≡ pieceSize (formatOf fields)
@@ -265,8 +265,8 @@ module _ (fields : Fields) (packet : List ℕ) (range : inRange fields ≡ true)
       go false e =
           filled-size (pieceSize (formatOf fields)) (some-bytes (formatOf fields)) (eight-bytes (formatOf fields)) packet (leb-false (length packet) 8 e) k (omega (arith, count))
 
-  counted-pieces : countOf (formatOf fields) (length packet) ≡ value (length (pieces fields packet))
-  unfolding countOf
+  counted-pieces : pieceCount (formatOf fields) (length packet) ≡ value (length (pieces fields packet))
+  unfolding pieceCount
   counted-pieces = sym (pass Size _ _ (le-leb _ _ small) (none-left _)) ∙ ap value (sym count)
 
   own-fields : (k : ℕ) → piece fields packet k .fields ≡ fields
@@ -287,7 +287,7 @@ splitting fields packet range small =
       few = rw (count fields packet range small) (few-pieces (formatOf fields) (length packet) small);
       one = one-piece fields packet range small;
       more = more-pieces fields packet range small;
-      listed = listed-piece fields packet range small;
+      in-order = listed-piece fields packet range small;
       single = single-flag fields packet range small;
       start = start-flag fields packet range small;
       middle = middle-flag fields packet range small;

@@ -17,8 +17,8 @@ use Rattle.format.specs.Refusals.{value, refused}
 use Rattle.format.proofs.Tests.{Each, each}
 use Rattle.format.proofs.Checks.{stop, pass, none-left}
 use Rattle.frame.specs.Judge.{Frame}
-use Rattle.frame.specs.Image.{header, imageOf}
-use Rattle.packet.specs.Split.{frameOf}
+use Rattle.frame.specs.Image.{headerBytes, imageOf}
+use Rattle.packet.specs.Split.{frameWith}
 use Rattle.packet.specs.Send.{over}
 use Rattle.packet.specs.Parts.{filler, placed, Placed}
 
@@ -51,8 +51,8 @@ standard-range fields p q s e h = each _ (rw e at h)
 -- the image's size, and the image as the code puts it together: so much of the header's six bytes, then the packet bytes
 module _ (flag : Flag) (number : ℕ) (bytes : List ℕ) where
   size-if : (fields : Fields) (b : Bool) → numbered (formatOf fields) flag ≡ b
-      → length (imageOf (frameOf fields flag number bytes)) ≡ cond b (headerSize (formatOf fields) + 1) (headerSize (formatOf fields)) + length bytes
-  unfolding header imageOf
+      → length (imageOf (frameWith fields flag number bytes)) ≡ cond b (headerSize (formatOf fields) + 1) (headerSize (formatOf fields)) + length bytes
+  unfolding headerBytes imageOf
   size-if (Extended priority source group destination function) true e = let z : _≡_ {A = ℕ} 0 1 = cc in absurd (omega arith)
   size-if (Extended priority source group destination function) false e = omega arith
   size-if (Standard priority address side) true e = rw e (omega arith)
@@ -60,25 +60,25 @@ module _ (flag : Flag) (number : ℕ) (bytes : List ℕ) where
 
   led-if : (fields : Fields) (b : Bool) → numbered (formatOf fields) flag ≡ b → (count : ℕ)
       → count ≡ cond b (headerSize (formatOf fields) + 1) (headerSize (formatOf fields)) + length bytes - headerSize (formatOf fields)
-      → take (cond b (headerSize (formatOf fields) + 1) (headerSize (formatOf fields))) (header fields flag number count ++ filler fields number) ++ bytes
-      ≡ imageOf (frameOf fields flag number bytes)
-  unfolding header filler imageOf
+      → take (cond b (headerSize (formatOf fields) + 1) (headerSize (formatOf fields))) (headerBytes fields flag number count ++ filler fields number) ++ bytes
+      ≡ imageOf (frameWith fields flag number bytes)
+  unfolding headerBytes filler imageOf
   led-if (Extended priority source group destination function) true e count ec = let z : _≡_ {A = ℕ} 0 1 = cc in absurd (omega arith)
   led-if (Extended priority source group destination function) false e count ec = let n : count ≡ length bytes = omega arith in rw n
   led-if (Standard priority address side) true e count ec = let n : count ≡ suc (length bytes) = omega arith in rw (e, n)
   led-if (Standard priority address side) false e count ec = let n : count ≡ length bytes = omega arith in rw (e, n)
 
   module _ (fields : Fields) (start : ℕ) (es : start ≡ packetStart (formatOf fields) flag) where
-    pub image-size : length (imageOf (frameOf fields flag number bytes)) ≡ start + length bytes
+    pub image-size : length (imageOf (frameWith fields flag number bytes)) ≡ start + length bytes
     image-size = rw es (size-if fields (numbered (formatOf fields) flag) refl)
 
     pub image-led : (size : ℕ) → size ≡ headerSize (formatOf fields) → (head : List ℕ)
-        → head ≡ header fields flag number (start + length bytes - size) ++ filler fields number
-        → take start head ++ bytes ≡ imageOf (frameOf fields flag number bytes)
+        → head ≡ headerBytes fields flag number (start + length bytes - size) ++ filler fields number
+        → take start head ++ bytes ≡ imageOf (frameWith fields flag number bytes)
     image-led size ez head eh =
         rw (eh, es, ez) (led-if fields (numbered (formatOf fields) flag) refl _ refl)
 
-pub head-six : (fields : Fields) (flag : Flag) (n count : ℕ) (head : List ℕ) → head ≡ header fields flag n count ++ filler fields n → length head ≡ 6
-unfolding header filler
+pub head-six : (fields : Fields) (flag : Flag) (n count : ℕ) (head : List ℕ) → head ≡ headerBytes fields flag n count ++ filler fields n → length head ≡ 6
+unfolding headerBytes filler
 head-six (Extended priority source group destination function) flag n count head e = ap length e
 head-six (Standard priority address side) flag n count head e = ap length e

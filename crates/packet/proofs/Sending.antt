@@ -19,8 +19,8 @@ use Rattle.format.specs.Formats.{packetLimit, pieceSize, numberRange, formatOf,
 use Rattle.format.specs.Refusals.{refused, number, meaning}
 use Rattle.format.proofs.Checks.{stop, pass}
 use Rattle.format.proofs.Limits.{some-bytes, eight-bytes, most-bytes, some-numbers}
-use Rattle.packet.specs.Split.{pieceCount, pieceFlag, pieceBytes, frameOf, piece}
-use Rattle.packet.specs.Send.{send, answer, after}
+use Rattle.packet.specs.Split.{countOf, pieceFlag, pieceBytes, frameWith, piece}
+use Rattle.packet.specs.Send.{send, answer, outputAfter}
 use Rattle.packet.specs.Parts.{placed, Placed}
 use Rattle.packet.proofs.Counts.{bytes-single, bytes-several}
 
@@ -35,7 +35,7 @@ bytes-small z packet k small = go (leb (length packet) 8) refl
 -- the answer and the output of sending, as the contract has them
 abbrev Sent : Fields → List ℕ → ℕ → List ℕ → Outcome → List ℕ → Type 0
 Sent fields packet k output r last =
-    (meaning r ≡ answer (send fields packet k (length output))) × (last ≡ after (send fields packet k (length output)) output)
+    (meaning r ≡ answer (send fields packet k (length output))) × (last ≡ outputAfter (send fields packet k (length output)) output)
 
 -- what the code knows once the packet fits its format: z is the piece size
 pub record Sized (fields : Fields) (packet : List ℕ) (format : Format) (z : ℕ) : Type 0 where
@@ -47,7 +47,7 @@ pub record Sized (fields : Fields) (packet : List ℕ) (format : Format) (z : �
 -- and once there is a piece k
 pub record Indexed (fields : Fields) (packet : List ℕ) (k : ℕ) (format : Format) (z count : ℕ) : Type 0 where
   pub sized : Sized fields packet format z
-  pub counted : count ≡ pieceCount z (length packet)
+  pub counted : count ≡ countOf z (length packet)
   pub index : k < count
 
 pub sizes : {fields : Fields} {packet : List ℕ} {format : Format} {z : ℕ} → Sized fields packet format z
@@ -72,21 +72,21 @@ module _ (fields : Fields) (packet : List ℕ) (k : ℕ) (output : List ℕ) whe
       let m : packetLimit (formatOf fields) < length packet = rw (← e) h in
       as-refused Size (pass Field _ _ r (stop Size _ _ (lt-leb _ _ m)))
 
-  module _ (format : Format) (z : ℕ) (s : Sized fields packet format z) (count : ℕ) (ec : count ≡ pieceCount z (length packet)) where
+  module _ (format : Format) (z : ℕ) (s : Sized fields packet format z) (count : ℕ) (ec : count ≡ countOf z (length packet)) where
     within-limit : leb (length packet) (packetLimit (formatOf fields)) ≡ true
     within-limit = let m : length packet ≤ packetLimit (formatOf fields) = rw (← s .of-format) (s .within) in le-leb _ _ m
 
     pub bad-index : count ≤ k → Sent fields packet k output (Refused Index) output
     unfolding send
     bad-index h =
-        let m : pieceCount (pieceSize (formatOf fields)) (length packet) ≤ k = rw (← s .of-format, ← s .size, ← ec) h in
+        let m : countOf (pieceSize (formatOf fields)) (length packet) ≤ k = rw (← s .of-format, ← s .size, ← ec) h in
         as-refused Index (pass Field _ _ (s .range) (pass Size _ _ within-limit (stop Index _ _ (le-ltb _ _ m))))
 
     -- then only ROOM is left
     is-placed : k < count → placed (piece fields packet k) (length output) ≡ send fields packet k (length output)
     unfolding placed send
     is-placed h =
-        let m : k < pieceCount (pieceSize (formatOf fields)) (length packet) = rw (← s .of-format, ← s .size, ← ec) h in
+        let m : k < countOf (pieceSize (formatOf fields)) (length packet) = rw (← s .of-format, ← s .size, ← ec) h in
         pass Field _ _ (s .range) (pass Size _ _ within-limit (pass Index _ _ (lt-ltb _ _ m) refl))
 
 -- piece k as the code has it: flag, number n and bytes
@@ -96,11 +96,11 @@ module _ {fields : Fields} {packet : List ℕ} {k : ℕ} {format : Format} {z co
       let s = i .sized in
       (s .range, rw (en, s .of-format) (mod-lt k (some-numbers (formatOf fields))), rw eb (bytes-small z packet k (sizes s .1)))
 
-  is-piece : frameOf fields flag n bytes ≡ piece fields packet k
+  is-piece : frameWith fields flag n bytes ≡ piece fields packet k
   unfolding piece
   is-piece = let s = i .sized in rw (eg, en, eb, i .counted, s .size, s .of-format)
 
-  pub whole : (output : List ℕ) (r : Outcome) (last : List ℕ) → Placed (frameOf fields flag n bytes) output r last → Sent fields packet k output r last
+  pub whole : (output : List ℕ) (r : Outcome) (last : List ℕ) → Placed (frameWith fields flag n bytes) output r last → Sent fields packet k output r last
   whole output r last p =
       let q = rw is-piece at p in
       let e = is-placed fields packet k output format z (i .sized) count (i .counted) (i .index) in

@@ -11,7 +11,7 @@ use Rattle.format.specs.Refusals.{value}
 use Rattle.frame.specs.Judge.{Frame, judge}
 use Rattle.frame.specs.Image.{imageOf, soundFrame}
 use Rattle.packet.specs.Split.{piece, pieces}
-use Rattle.packet.specs.Send.{countOf}
+use Rattle.packet.specs.Send.{pieceCount}
 
 -- the packet bytes of frames, put together
 unfoldable pub joined : List Frame → List ℕ
@@ -20,12 +20,12 @@ joined (frame ∷ frames) = frame .bytes ++ joined frames
 
 pub record IsSplit (fields : Fields) (packet : List ℕ) : Type 0 where
   -- there are exactly as many pieces as the count says, 1 to 256: one for a packet of 0 to 8 bytes, more for a longer one
-  pub counted : countOf (formatOf fields) (length packet) ≡ value (length (pieces fields packet))
+  pub counted : pieceCount (formatOf fields) (length packet) ≡ value (length (pieces fields packet))
   pub few : length (pieces fields packet) ≤ 256
   pub one : length packet ≤ 8 → length (pieces fields packet) ≡ 1
   pub more : 8 < length packet → 2 ≤ length (pieces fields packet)
   -- piece k is the k-th of them
-  pub listed : (k : ℕ) → k < length (pieces fields packet) → (other : Frame) → getD (pieces fields packet) k other ≡ piece fields packet k
+  pub in-order : (k : ℕ) → k < length (pieces fields packet) → (other : Frame) → getD (pieces fields packet) k other ≡ piece fields packet k
   -- a single, or a start, middles and an end; piece k has number k, taken modulo the number range
   pub single : length (pieces fields packet) ≡ 1 → piece fields packet 0 .flag ≡ Single
   pub start : 2 ≤ length (pieces fields packet) → piece fields packet 0 .flag ≡ Start

@@ -15,7 +15,7 @@ use Rattle.format.specs.Refusals.{Result, value, refused, number}
 use Rattle.frame.specs.Judge.{Judged, judge}
 use Rattle.frame.specs.Image.{imageOf}
 use Rattle.packet.specs.Split.{piece}
-use Rattle.packet.specs.Send.{countOf}
+use Rattle.packet.specs.Send.{pieceCount}
 
 pub data Example : Type 0 where
   -- an image, and what it is judged to be
@@ -71,7 +71,7 @@ table =
 -- stand for a byte that is not there)
 abbrev pub Holds : Example → Type 0
 Holds (judges format image said) = judge format image ≡ said
-Holds (counts format size said) = countOf format size ≡ said
+Holds (counts format size said) = pieceCount format size ≡ said
 Holds (numbers size k said) =
     (priority source group destination function : ℕ) (packet : List ℕ) → length packet ≡ size
     → getD (imageOf (piece (fields.Extended priority source group destination function) packet k)) 3 256 ≡ said

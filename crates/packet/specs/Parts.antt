@@ -11,7 +11,7 @@ use Rattle.format.specs.declared.Refusal.the-variants.{Room}
 use Rattle.format.specs.Refusals.{Result, check, guarded, meaning}
 use Rattle.frame.specs.Judge.{Frame}
 use Rattle.frame.specs.Image.{imageOf}
-use Rattle.packet.specs.Send.{answer, after}
+use Rattle.packet.specs.Send.{answer, outputAfter}
 
 -- what stands after the header in the six bytes that hold it
 unfoldable pub filler : Fields → ℕ → List ℕ
@@ -25,4 +25,4 @@ placed frame room = guarded (check Room (leb (length (imageOf frame)) room) ∷ 
 -- r is the answer to placing a frame, and last the output afterwards
 pub record Placed (frame : Frame) (output : List ℕ) (r : Outcome) (last : List ℕ) : Type 0 where
   pub answers : meaning r ≡ answer (placed frame (length output))
-  pub leaves : last ≡ after (placed frame (length output)) output
+  pub leaves : last ≡ outputAfter (placed frame (length output)) output

@@ -10,11 +10,11 @@ use Rattle.format.specs.declared.Refusal.the-variants.{Field, Size, Index, Room
 use Rattle.format.specs.Formats.{packetLimit, pieceSize, formatOf, inRange}
 use Rattle.format.specs.Refusals.{Result, value, refused, check, guarded}
 use Rattle.frame.specs.Image.{imageOf}
-use Rattle.packet.specs.Split.{pieceCount, piece}
+use Rattle.packet.specs.Split.{countOf, piece}
 
 -- the piece count of a packet of n bytes. SIZE: packet over the format's limit
-unfoldable pub countOf : Format → ℕ → Result ℕ
-countOf format n = guarded (check Size (leb n (packetLimit format)) ∷ []) (pieceCount (pieceSize format) n)
+unfoldable pub pieceCount : Format → ℕ → Result ℕ
+pieceCount format n = guarded (check Size (leb n (packetLimit format)) ∷ []) (countOf (pieceSize format) n)
 
 -- the image of piece k, for an output of `room` bytes. FIELD: a field is out of range. SIZE. INDEX: no piece k. ROOM: output
 -- shorter than the image
@@ -25,7 +25,7 @@ send fields packet k room =
     guarded
     (check Field (inRange fields)
     ∷ check Size (leb (length packet) (packetLimit format))
-    ∷ check Index (ltb k (pieceCount (pieceSize format) (length packet)))
+    ∷ check Index (ltb k (countOf (pieceSize format) (length packet)))
     ∷ check Room (leb (length image) room)
     ∷ [])
     image
@@ -40,6 +40,6 @@ abbrev pub over : List ℕ → List ℕ → List ℕ
 over image output = image ++ drop (length image) output
 
 -- the output afterwards; a refusal leaves it as it was
-abbrev pub after : Result (List ℕ) → List ℕ → List ℕ
-after (value image) output = over image output
-after (refused n) output = output
+abbrev pub outputAfter : Result (List ℕ) → List ℕ → List ℕ
+outputAfter (value image) output = over image output
+outputAfter (refused n) output = output

@@ -12,15 +12,15 @@ ghost use lib.ListN.{length, take};
 ghost use Rattle.copying.specs.Copy.{copied};
 ghost use Rattle.format.specs.Formats.{numberRange, formatOf, inRange};
 ghost use Rattle.format.specs.Refusals.{meaning};
-ghost use Rattle.frame.specs.Image.{header};
-ghost use Rattle.packet.specs.Split.{pieceCount, pieceFlag, pieceBytes, frameOf};
-ghost use Rattle.packet.specs.Send.{countOf, send, answer, over, after};
+ghost use Rattle.frame.specs.Image.{headerBytes};
+ghost use Rattle.packet.specs.Split.{countOf, pieceFlag, pieceBytes, frameWith};
+ghost use Rattle.packet.specs.Send.{pieceCount, send, answer, over, outputAfter};
 ghost use Rattle.packet.specs.Parts.{filler, Placed};
 
 // The number of pieces, over the piece size z.
 fn count_of(z: usize, n: usize) -> usize
     requires { ⌜ (0 < z) × (z ≤ 8) × (n ≤ 2048) ⌝ }
-    ensures { λ r. ⌜ r ≡ pieceCount z n ⌝ }
+    ensures { λ r. ⌜ r ≡ countOf z n ⌝ }
 {
     if n <= 8 {
         return 1;
@@ -30,7 +30,7 @@ fn count_of(z: usize, n: usize) -> usize
 
 // The number of pieces of a packet of that size, or SIZE.
 pub fn piece_count(format: Format, size: usize) -> Outcome
-    ensures { λ r. ⌜ meaning r ≡ countOf format size ⌝ }
+    ensures { λ r. ⌜ meaning r ≡ pieceCount format size ⌝ }
 {
     if size > format.packet_limit() {
         return Outcome::Refused(Refusal::Size);
@@ -66,7 +66,7 @@ fn number_at(range: usize, k: usize) -> u8
 
 // The packet bytes of piece k, over the piece size z.
 fn bytes_at(z: usize, packet: &[u8], k: usize) -> &[u8]
-    requires { ⌜ (0 < z) × (z ≤ 8) × (length (now packet) ≤ 2048) × (k < pieceCount z (length (now packet))) ⌝ }
+    requires { ⌜ (0 < z) × (z ≤ 8) × (length (now packet) ≤ 2048) × (k < countOf z (length (now packet))) ⌝ }
     ensures { λ r. ⌜ now r ≡ pieceBytes z (now (packet .entry)) k ⌝ }
 {
     let n = packet.len();
@@ -115,7 +115,7 @@ fn put(head: &[u8], m: usize, bytes: &[u8], output: &mut [u8])
 // A count of 9, eight bytes and a number, never comes about; allowing it spares place a test.
 fn header_of(fields: Fields, flag: Flag, number: u8, count: u8) -> [u8; 6]
     requires { ⌜ (inRange fields ≡ true) × (number < numberRange (formatOf fields)) × (count ≤ 9) ⌝ }
-    ensures { λ r. ⌜ r ≡ header fields flag number count ++ filler fields number ⌝ }
+    ensures { λ r. ⌜ r ≡ headerBytes fields flag number count ++ filler fields number ⌝ }
 {
     let bits = flag.bits();
     match fields {
@@ -151,7 +151,7 @@ fn header_of(fields: Fields, flag: Flag, number: u8, count: u8) -> [u8; 6]
 // Writes the image of a frame, or refuses with ROOM.
 fn place(fields: Fields, flag: Flag, number: u8, bytes: &[u8], output: &mut [u8]) -> Outcome
     requires { ⌜ (inRange fields ≡ true) × (number < numberRange (formatOf fields)) × (length (now bytes) ≤ 8) ⌝ }
-    ensures { λ r. ⌜ Placed (frameOf fields flag number (now (bytes .entry))) (now (output .entry)) r (now (output .exit)) ⌝ }
+    ensures { λ r. ⌜ Placed (frameWith fields flag number (now (bytes .entry))) (now (output .entry)) r (now (output .exit)) ⌝ }
 {
     let format = fields.format();
     let start = format.packet_start(flag);
@@ -169,7 +169,7 @@ fn place(fields: Fields, flag: Flag, number: u8, bytes: &[u8], output: &mut [u8]
 // refuses: FIELD, SIZE, INDEX, ROOM.
 pub fn write_piece(fields: Fields, packet: &[u8], k: usize, output: &mut [u8]) -> Outcome
     ensures { λ r. ⌜ meaning r ≡ answer (send fields (now (packet .entry)) k (length (now (output .entry)))) ⌝ }
-    ensures { λ _. ⌜ now (output .exit) ≡ after (send fields (now (packet .entry)) k (length (now (output .entry)))) (now (output .entry)) ⌝ }
+    ensures { λ _. ⌜ now (output .exit) ≡ outputAfter (send fields (now (packet .entry)) k (length (now (output .entry)))) (now (output .entry)) ⌝ }
 {
     if !fields.in_range() {
         return Outcome::Refused(Refusal::Field);

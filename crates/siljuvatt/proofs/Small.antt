@@ -17,15 +17,15 @@ use Rattle.format.specs.declared.Refusal.{Refusal}
 use Rattle.format.specs.declared.Refusal.the-variants.{Length, Form, Remote, Count, Piece, Orphan, Step, Long, Field, Size, Index, Room, Store, Taken, Full, Closed, NoPacket, Busy, Idle, NotAwaited, State}
 use Rattle.format.specs.Formats.{packetLimit, pieceSize, formatOf, inRange}
 use Rattle.format.specs.Refusals.{Result, value, refused, number, Check, check, guarded}
-use Rattle.format.specs.Tests.{all, allAfter}
+use Rattle.format.specs.Tests.{allTrue, allAfter}
 use Rattle.format.proofs.Checks.{Passed, passed}
 use Rattle.format.proofs.Limits.{five-bytes, most-bytes}
 use Rattle.format.proofs.Tests.{each, tests}
 use Rattle.frame.specs.Layout.{layout}
 use Rattle.frame.specs.Judge.{Frame, Judged, checks, readBy, judge}
 use Rattle.frame.specs.Image.{imageOf}
-use Rattle.packet.specs.Split.{pieceCount, piece, pieces}
-use Rattle.packet.specs.Send.{countOf, send, answer}
+use Rattle.packet.specs.Split.{countOf, piece, pieces}
+use Rattle.packet.specs.Send.{pieceCount, send, answer}
 use Rattle.packet.specs.Claims.{Splitting, IsSplit}
 use Rattle.packet.proofs.Pieces.{splitting}
 use Rattle.stream.specs.declared.Progress.{Progress}
@@ -42,7 +42,7 @@ use Rattle.station.specs.Read.{reading, lengthOf}
 use Rattle.station.proofs.Handing.{has-length, open-below}
 use Rattle.station.proofs.Steps.{Carrying, judged-carries, keeps}
 use Rattle.station_bytes.specs.States.{stationIn, isState}
-use Rattle.station_bytes.specs.Calls.{Handed, Received, renewed, receiveIn, openIn, closeIn, readIn}
+use Rattle.station_bytes.specs.Calls.{StateAfter, BytesAfter, renewed, receiveIn, openIn, closeIn, readIn}
 use Rattle.master.specs.declared.Kind.{Kind}
 use Rattle.master.specs.declared.Activity.{Activity}
 use Rattle.master.specs.declared.Activity.the-variants as activity
@@ -117,16 +117,16 @@ module _ (fs : Fields) (bytes : List ℕ) (range : inRange fs ≡ true) (small :
   unfolding Splitting
   split = splitting fs bytes range small
 
-  as-counted : pieceCount (pieceSize (formatOf fs)) (length bytes) ≡ length (pieces fs bytes)
-  unfolding countOf
+  as-counted : countOf (pieceSize (formatOf fs)) (length bytes) ≡ length (pieces fs bytes)
+  unfolding pieceCount
   as-counted =
-      passed (check Size (leb (length bytes) (packetLimit (formatOf fs))) ∷ []) (pieceCount (pieceSize (formatOf fs)) (length bytes)) _
+      passed (check Size (leb (length bytes) (packetLimit (formatOf fs))) ∷ []) (countOf (pieceSize (formatOf fs)) (length bytes)) _
       (split .counted) .1
 
-  few : pieceCount (pieceSize (formatOf fs)) (length bytes) ≤ 256
+  few : countOf (pieceSize (formatOf fs)) (length bytes) ≤ 256
   few = omega (arith, as-counted, split .few)
 
-  image-small : (k : ℕ) → k < pieceCount (pieceSize (formatOf fs)) (length bytes) → length (imageOf (piece fs bytes k)) ≤ 13
+  image-small : (k : ℕ) → k < countOf (pieceSize (formatOf fs)) (length bytes) → length (imageOf (piece fs bytes k)) ≤ 13
   unfolding judge checks
   image-small k h =
       let fm = formatOf fs in
@@ -136,15 +136,15 @@ module _ (fs : Fields) (bytes : List ℕ) (range : inRange fs ≡ true) (small :
       let t = each _ (p .0 .0) in
       omega (tests, t .1 .0, five-bytes fm)
 
-counted : (fs : Fields) → inRange fs ≡ true → (n : ℕ) → UpTo 256 (countOf (formatOf fs) n)
-unfolding countOf
+counted : (fs : Fields) → inRange fs ≡ true → (n : ℕ) → UpTo 256 (pieceCount (formatOf fs) n)
+unfolding pieceCount
 counted fs range n =
-    within (λ (m : ℕ). m ≤ 256) (check Size (leb n (packetLimit (formatOf fs))) ∷ []) (pieceCount (pieceSize (formatOf fs)) n)
+    within (λ (m : ℕ). m ≤ 256) (check Size (leb n (packetLimit (formatOf fs))) ∷ []) (countOf (pieceSize (formatOf fs)) n)
     (λ p. let zeros = length-replicate {A = ℕ} n 0 in
     rw zeros at (few fs (replicate n 0) range (rw zeros (leb-true _ _ (p .0)))))
 
-count-small : (format : Format) (n : ℕ) → UpTo 256 (countOf format n)
-unfolding inRange all allAfter
+count-small : (format : Format) (n : ℕ) → UpTo 256 (pieceCount format n)
+unfolding inRange allTrue allAfter
 count-small format.Extended n = counted (fields.Extended 0 0 0 0 0) refl n
 count-small format.Standard n = counted (fields.Standard 0 0 0) refl n
 
@@ -163,7 +163,7 @@ writes fs bytes k room = lengths 13 (send fs bytes k room) (image-of fs bytes k 
 
 -- ---- a station
 
-abbrev Hands : ℕ → Handed → Type 0
+abbrev Hands : ℕ → StateAfter → Type 0
 Hands most h = UpTo most (h .answer)
 
 new : (state : List ℕ) (format : ℕ) → UpTo 0 (newIn state format .answer)
@@ -177,14 +177,14 @@ opens : (state : List ℕ) (key : Key) → UpTo 15 (openIn state key .answer)
 unfolding openIn handing.opening
 opens state key =
     either (Hands 15) (isState state) _ _
-    (by-checks (λ r. UpTo 15 (handing.handed (stationIn state) (openSlot key progress.Idle) r .answer)) _ _ (λ p. omega (tests, p .1 .1 .1 .0)) a-refusal)
+    (by-checks (λ r. UpTo 15 (handing.changedAt (stationIn state) (openSlot key progress.Idle) r .answer)) _ _ (λ p. omega (tests, p .1 .1 .1 .0)) a-refusal)
     (a-refusal State)
 
 closes : (state : List ℕ) (slot : ℕ) → UpTo 15 (closeIn state slot .answer)
 unfolding closeIn handing.closing
 closes state slot =
     either (Hands 15) (isState state) _ _
-    (by-checks (λ r. UpTo 15 (handing.handed (stationIn state) closedSlot r .answer)) _ _
+    (by-checks (λ r. UpTo 15 (handing.changedAt (stationIn state) closedSlot r .answer)) _ _
     (λ p. omega (arith, open-below (stationIn state .slots) slot (p .1 .0))) a-refusal)
     (a-refusal State)
 
@@ -250,7 +250,7 @@ receive-small station store bus image =
 receives : (state store : List ℕ) (bus : ℕ) (image : List ℕ) → Within (LengthUpTo 2048) (receiveIn state store bus image .answer)
 unfolding receiveIn
 receives state store bus image =
-    either (λ (r : Received). Within (LengthUpTo 2048) (r .answer)) (isState state) _ _
+    either (λ (r : BytesAfter). Within (LengthUpTo 2048) (r .answer)) (isState state) _ _
     (receive-small (stationIn state) store bus image)
     (a-refusal State)
 

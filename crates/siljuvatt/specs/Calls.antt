@@ -7,20 +7,20 @@ use lib.Dec.{leb, eqb}
 use lib.ListN.{length}
 use Rattle.format.specs.declared.Refusal.the-variants.{Field, State}
 use Rattle.format.specs.Refusals.{Result, value, refused, number, check, guarded}
-use Rattle.packet.specs.Send.{countOf}
+use Rattle.packet.specs.Send.{pieceCount}
 use Rattle.filter.specs.Filters.{eitherAccepts, rowPair}
-use Rattle.station_bytes.specs.Calls.{Handed, renewed}
+use Rattle.station_bytes.specs.Calls.{StateAfter, renewed}
 use Rattle.station_bytes.specs.States.{formatIn}
 
 -- FIELD: a format that is neither
 unfoldable pub countIn : (format size : ℕ) → Result ℕ
-countIn format size = cond (leb format 1) (countOf (formatIn format) size) (refused (number Field))
+countIn format size = cond (leb format 1) (pieceCount (formatIn format) size) (refused (number Field))
 
-abbrev pub unchanged : List ℕ → Result ℕ → Handed
+abbrev pub unchanged : List ℕ → Result ℕ → StateAfter
 unchanged state answer = record { answer = answer; state = state }
 
 -- STATE: another number of bytes. FIELD: a format that is neither
-unfoldable pub newIn : List ℕ → (format : ℕ) → Handed
+unfoldable pub newIn : List ℕ → (format : ℕ) → StateAfter
 newIn state format =
     cond (eqb (length state) 129) (cond (leb format 1) (renewed state (formatIn format)) (unchanged state (refused (number Field))))
     (unchanged state (refused (number State)))

@@ -164,7 +164,7 @@ pub extern "C" fn siljuvatt_write_piece(
     output: &mut [u8],
 ) -> u32
     ensures { λ r. ⌜ r ≡ outcomeWord (sending.answer (sending.send (fieldsFrom format (now (fields .entry))) (now (packet .entry)) k (length (now (output .entry))))) ⌝ }
-    ensures { λ _. ⌜ now (output .exit) ≡ sending.after (sending.send (fieldsFrom format (now (fields .entry))) (now (packet .entry)) k (length (now (output .entry)))) (now (output .entry)) ⌝ }
+    ensures { λ _. ⌜ now (output .exit) ≡ sending.outputAfter (sending.send (fieldsFrom format (now (fields .entry))) (now (packet .entry)) k (length (now (output .entry)))) (now (output .entry)) ⌝ }
 {
     outcome_word(write_piece(fields_of(format, fields), packet, k, output))
 }

@@ -10,7 +10,7 @@ use borrow.Author.Tests.{eqb-true, leb-true, eq-eqb, ne-eqb}
 use Rattle.format.specs.declared.Format.{Format}
 use Rattle.format.specs.declared.Fields.{Fields}
 use Rattle.format.specs.declared.Fields.the-variants.{Extended, Standard}
-use Rattle.format.specs.Tests.{all}
+use Rattle.format.specs.Tests.{allTrue}
 use Rattle.format.specs.Formats.{inRange}
 use Rattle.format.proofs.Tests.{each, from-each}
 use Rattle.format.specs.declared.Refusal.the-variants.{State}
@@ -84,7 +84,7 @@ small format key e = let r = in-range format key e in small-fields (key .fields)
 
 -- equal codes in range: equal fields
 told : (a b : Fields) (m n : ℕ) → Bounds a → Bounds b → m ≤ 1 → n ≤ 1 → codeOf m a ≡ codeOf n b
-    → all (eqb m n ∷ sameFields a b ∷ []) ≡ true
+    → allTrue (eqb m n ∷ sameFields a b ∷ []) ≡ true
 unfolding Bounds sameFields
 told (Extended p s g d f) (Extended p′ s′ g′ d′ f′) m n r r′ h h′ q =
     let qd : d ≡ d′ = omega (arith, r .p3, r .s63, r .g3, r .d63, r .f31, r′ .p3, r′ .s63, r′ .g3, r′ .d63, r′ .f31) in
@@ -166,7 +166,7 @@ join false a′ d c h g = rw (h, g)
 
 -- open keys of sound slots differ exactly where no two codes are equal
 pub differ-codes : (format : Format) (slots : List Slot) (i : ℕ) → slotsSound format slots ≡ true → keysDiffer slots ≡ not (clashing (codesFrom slots i))
-unfolding keysDiffer all
+unfolding keysDiffer allTrue
 differ-codes format [] i e = refl
 differ-codes format (slot ∷ slots) i e =
     let rest = rest-sound format slot slots e in
@@ -201,11 +201,11 @@ codes-at (slot ∷ slots) n (suc i) d h =
 -- what the scan and the comparison of the codes that it wrote say of soundness
 module _ (format : Format) (slots : List Slot) (sixteen : length slots ≡ 16) where
   pub unsound : slotsSound format slots ≡ false → sound format slots ≡ false
-  unfolding sound all
+  unfolding sound allTrue
   unsound e = rw (eq-eqb (length slots) 16 sixteen, e)
 
   pub sound-codes : (codes : List ℕ) → slotsSound format slots ≡ true → codes ≡ codesFrom slots 0 → sound format slots ≡ not (clashing codes)
-  unfolding sound all
+  unfolding sound allTrue
   sound-codes codes e q = rw (eq-eqb (length slots) 16 sixteen, e, q) (differ-codes format slots 0 e)
 
 -- the search for a key among the codes finds what the search among the slots finds: no key out of range is open in sound slots

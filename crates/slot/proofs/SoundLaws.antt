@@ -7,7 +7,7 @@ use native.Mathlib.Numerals.{add-one}
 use lib.ListN.{length, drop, getD, drop-of-length-le}
 use lib.Seq.{drop-cons}
 use Rattle.format.specs.declared.Format.{Format}
-use Rattle.format.specs.Tests.{all}
+use Rattle.format.specs.Tests.{allTrue}
 use Rattle.format.proofs.Tests.{each}
 use Rattle.slot.specs.declared.Key.{Key}
 use Rattle.slot.specs.declared.Slot.{Slot}
@@ -60,7 +60,7 @@ out-of-range format key slots r e = place-none (hasKey key) slots (none-open for
 -- i slots are sound: the next is not; it is; none is left
 module _ (format : Format) (slots : List Slot) (i : ℕ) where
   turn : (d : Slot) → i < length slots → slotsSound format (drop i slots) ≡ (slotSound format (getD slots i d .occupancy) && slotsSound format (drop (i + 1) slots))
-  unfolding slotsSound all
+  unfolding slotsSound allTrue
   turn d h = rw (drop-cons slots i d h, add-one)
 
   pub bad : (d : Slot) → i < length slots → slotSound format (getD slots i d .occupancy) ≡ false → slotsSound format (drop i slots) ≡ false

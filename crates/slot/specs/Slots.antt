@@ -7,7 +7,7 @@ use lib.Dec.{eqb}
 use lib.ListN.{getD}
 use Rattle.format.specs.declared.Fields.{Fields}
 use Rattle.format.specs.declared.Fields.the-variants.{Extended, Standard}
-use Rattle.format.specs.Tests.{all}
+use Rattle.format.specs.Tests.{allTrue}
 use Rattle.stream.specs.declared.Progress.{Progress}
 use Rattle.slot.specs.declared.Key.{Key}
 use Rattle.slot.specs.declared.Occupancy.{Occupancy}
@@ -25,13 +25,13 @@ abbrev pub slotAt : List Slot → ℕ → Slot
 slotAt slots i = getD slots i closedSlot
 
 unfoldable pub sameFields : Fields → Fields → Bool
-sameFields (Extended p s g d f) (Extended p′ s′ g′ d′ f′) = all (eqb p p′ ∷ eqb s s′ ∷ eqb g g′ ∷ eqb d d′ ∷ eqb f f′ ∷ [])
-sameFields (Standard p a s) (Standard p′ a′ s′) = all (eqb p p′ ∷ eqb a a′ ∷ eqb s s′ ∷ [])
+sameFields (Extended p s g d f) (Extended p′ s′ g′ d′ f′) = allTrue (eqb p p′ ∷ eqb s s′ ∷ eqb g g′ ∷ eqb d d′ ∷ eqb f f′ ∷ [])
+sameFields (Standard p a s) (Standard p′ a′ s′) = allTrue (eqb p p′ ∷ eqb a a′ ∷ eqb s s′ ∷ [])
 sameFields (Extended p s g d f) (Standard p′ a′ s′) = false
 sameFields (Standard p a s) (Extended p′ s′ g′ d′ f′) = false
 
 unfoldable pub sameKey : Key → Key → Bool
-sameKey a b = all (eqb (a .bus) (b .bus) ∷ sameFields (a .fields) (b .fields) ∷ [])
+sameKey a b = allTrue (eqb (a .bus) (b .bus) ∷ sameFields (a .fields) (b .fields) ∷ [])
 
 -- closed; open with that key
 abbrev pub closed : Occupancy → Bool

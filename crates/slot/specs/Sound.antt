@@ -10,7 +10,7 @@ use Rattle.format.specs.declared.Format.{Format}
 use Rattle.format.specs.declared.Format.the-variants.{Extended, Standard}
 use Rattle.format.specs.declared.Refusal.the-variants.{State}
 use Rattle.format.specs.Refusals.{Result, check, guarded}
-use Rattle.format.specs.Tests.{all}
+use Rattle.format.specs.Tests.{allTrue}
 use Rattle.format.specs.Formats.{pieceSize, packetLimit, formatOf, inRange}
 use Rattle.stream.specs.declared.Progress.{Progress}
 use Rattle.stream.specs.declared.Progress.the-variants.{Idle, Collecting, Done}
@@ -28,7 +28,7 @@ sameFormat Standard Extended = false
 
 -- a key in range: the bus is 0 or 1, the fields are of the station's format and each in its range
 unfoldable pub keyInRange : Format → Key → Bool
-keyInRange format key = all (leb (key .bus) 1 ∷ sameFormat format (formatOf (key .fields)) ∷ inRange (key .fields) ∷ [])
+keyInRange format key = allTrue (leb (key .bus) 1 ∷ sameFormat format (formatOf (key .fields)) ∷ inRange (key .fields) ∷ [])
 
 -- the most bytes that a sound stream holds while collecting
 abbrev pub mostHeld : Format → ℕ
@@ -37,16 +37,16 @@ mostHeld Standard = 1785
 
 unfoldable pub fits : Format → Progress → Bool
 fits format Idle = true
-fits format (Collecting h) = all (eqb (h % pieceSize format) 0 ∷ leb (pieceSize format) h ∷ leb h (mostHeld format) ∷ [])
+fits format (Collecting h) = allTrue (eqb (h % pieceSize format) 0 ∷ leb (pieceSize format) h ∷ leb h (mostHeld format) ∷ [])
 fits format (Done h) = leb h (packetLimit format)
 
 unfoldable pub slotSound : Format → Occupancy → Bool
 slotSound format Closed = true
-slotSound format (Open stream) = all (keyInRange format (stream .key) ∷ fits format (stream .progress) ∷ [])
+slotSound format (Open stream) = allTrue (keyInRange format (stream .key) ∷ fits format (stream .progress) ∷ [])
 
 unfoldable pub slotsSound : Format → List Slot → Bool
 slotsSound format [] = true
-slotsSound format (slot ∷ slots) = all (slotSound format (slot .occupancy) ∷ slotsSound format slots ∷ [])
+slotsSound format (slot ∷ slots) = allTrue (slotSound format (slot .occupancy) ∷ slotsSound format slots ∷ [])
 
 unfoldable pub any : {A : Type 0} → (A → Bool) → List A → Bool
 any test [] = false
@@ -60,10 +60,10 @@ repeatedIn (Open stream) slots = any (hasKey (stream .key)) slots
 -- open keys differ: none is open again further on
 unfoldable pub keysDiffer : List Slot → Bool
 keysDiffer [] = true
-keysDiffer (slot ∷ slots) = all (not (repeatedIn (slot .occupancy) slots) ∷ keysDiffer slots ∷ [])
+keysDiffer (slot ∷ slots) = allTrue (not (repeatedIn (slot .occupancy) slots) ∷ keysDiffer slots ∷ [])
 
 unfoldable pub sound : Format → List Slot → Bool
-sound format slots = all (eqb (length slots) 16 ∷ slotsSound format slots ∷ keysDiffer slots ∷ [])
+sound format slots = allTrue (eqb (length slots) 16 ∷ slotsSound format slots ∷ keysDiffer slots ∷ [])
 
 -- where a key is open, 16 if nowhere; STATE where the slots are not sound
 abbrev pub sought : Format → List Slot → Key → Result ℕ

@@ -28,13 +28,13 @@ use Rattle.slot.specs.Sound.{keyInRange, fits, slotSound, sound, sought}
 use Rattle.station.specs.declared.Station.{Station}
 use Rattle.station.specs.Stations.{soundStation, withSlots, area, fullSize}
 use Rattle.station.specs.Receive.{progressIn, progressOf}
-use Rattle.station.specs.Open.{Handed, handed, opening, isOpen, closing}
+use Rattle.station.specs.Open.{StationAfter, changedAt, opening, isOpen, closing}
 use Rattle.station.specs.Read.{isDone, held, reading, lengthOf, partOf}
 use Rattle.station.proofs.Areas.{area-length}
 use Rattle.station.proofs.Turning.{sought-refused}
 use Rattle.station.proofs.Slots.{sound-at}
 
-abbrev refuses : Station → ℕ → Handed
+abbrev refuses : Station → ℕ → StationAfter
 refuses station n = record { answer = refused n; station = station }
 
 not-lt : (n : ℕ) → 16 ≤ n → not (ltb n 16) ≡ true
@@ -50,32 +50,32 @@ module _ (station : Station) (key : Key) where
   unfolding opening
   open-state name e =
       let u = sought-refused (station .format) (station .slots) key (number name) (sym e) in
-      ap (handed station (openSlot key Idle)) (ap refused (u .1) ∙ stop refusal.State _ _ (u .0))
+      ap (changedAt station (openSlot key Idle)) (ap refused (u .1) ∙ stop refusal.State _ _ (u .0))
 
   module _ (s : soundStation station ≡ true) where
     pub open-field : keyInRange (station .format) key ≡ false → refuses station (number refusal.Field) ≡ opening station key
     unfolding opening
-    open-field r = ap (handed station (openSlot key Idle)) (pass refusal.State _ _ s (stop refusal.Field _ _ r))
+    open-field r = ap (changedAt station (openSlot key Idle)) (pass refusal.State _ _ s (stop refusal.Field _ _ r))
 
     module _ (r : keyInRange (station .format) key ≡ true) where
       pub open-taken : place (hasKey key) (station .slots) < 16 → refuses station (number refusal.Taken) ≡ opening station key
       unfolding opening
-      open-taken t = ap (handed station (openSlot key Idle)) (pass refusal.State _ _ s (pass refusal.Field _ _ r (stop refusal.Taken _ _ (is-lt _ t))))
+      open-taken t = ap (changedAt station (openSlot key Idle)) (pass refusal.State _ _ s (pass refusal.Field _ _ r (stop refusal.Taken _ _ (is-lt _ t))))
 
       module _ (f : 16 ≤ place (hasKey key) (station .slots)) where
         pub open-full : 16 ≤ place isClosed (station .slots) → refuses station (number refusal.Full) ≡ opening station key
         unfolding opening
         open-full n =
-            ap (handed station (openSlot key Idle))
+            ap (changedAt station (openSlot key Idle))
             (pass refusal.State _ _ s (pass refusal.Field _ _ r (pass refusal.Taken _ _ (not-lt _ f) (stop refusal.Full _ _ (le-ltb _ 16 n)))))
 
         pub open-lowest : (i : ℕ) → i ≡ place isClosed (station .slots) → i < 16
-            → _≡_ {A = Handed} (record { answer = value i; station = withSlots station (set (station .slots) i (openSlot key Idle)) }) (opening station key)
+            → _≡_ {A = StationAfter} (record { answer = value i; station = withSlots station (set (station .slots) i (openSlot key Idle)) }) (opening station key)
         unfolding opening
         open-lowest i e h =
             let l : place isClosed (station .slots) < 16 = omega (arith, e, h) in
-            ap (λ (n : ℕ). handed station (openSlot key Idle) (value n)) e
-            ∙ ap (handed station (openSlot key Idle))
+            ap (λ (n : ℕ). changedAt station (openSlot key Idle) (value n)) e
+            ∙ ap (changedAt station (openSlot key Idle))
             (pass refusal.State _ _ s (pass refusal.Field _ _ r (pass refusal.Taken _ _ (not-lt _ f) (pass refusal.Full _ _ (lt-ltb _ 16 l) (none-left _)))))
 
 -- ---- closing
@@ -83,16 +83,16 @@ module _ (station : Station) (key : Key) where
 module _ (station : Station) (i : ℕ) where
   pub close-state : soundStation station ≡ false → refuses station (number refusal.State) ≡ closing station i
   unfolding closing
-  close-state s = ap (handed station closedSlot) (stop refusal.State _ _ s)
+  close-state s = ap (changedAt station closedSlot) (stop refusal.State _ _ s)
 
   pub close-closed : soundStation station ≡ true → isOpen (station .slots) i ≡ false → refuses station (number refusal.Closed) ≡ closing station i
   unfolding closing isOpen
-  close-closed s o = ap (handed station closedSlot) (pass refusal.State _ _ s (stop refusal.Closed _ _ o))
+  close-closed s o = ap (changedAt station closedSlot) (pass refusal.State _ _ s (stop refusal.Closed _ _ o))
 
   pub close-open : soundStation station ≡ true → isOpen (station .slots) i ≡ true
-      → _≡_ {A = Handed} (record { answer = value i; station = withSlots station (set (station .slots) i closedSlot) }) (closing station i)
+      → _≡_ {A = StationAfter} (record { answer = value i; station = withSlots station (set (station .slots) i closedSlot) }) (closing station i)
   unfolding closing isOpen
-  close-open s o = ap (handed station closedSlot) (pass refusal.State _ _ s (pass refusal.Closed _ _ o (none-left i)))
+  close-open s o = ap (changedAt station closedSlot) (pass refusal.State _ _ s (pass refusal.Closed _ _ o (none-left i)))
 
 pub open-below : (slots : List Slot) (i : ℕ) → isOpen slots i ≡ true → i < 16
 unfolding isOpen

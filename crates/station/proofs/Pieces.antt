@@ -17,7 +17,7 @@ use Rattle.format.specs.Formats.{pieceSize, numberRange, formatOf}
 use Rattle.format.specs.Refusals.{Result, value}
 use Rattle.format.proofs.Limits.{some-bytes, eight-bytes}
 use Rattle.frame.specs.Judge.{Frame}
-use Rattle.packet.specs.Split.{pieceCount, pieceFlag, pieceBytes, piece, piecesFrom, pieces}
+use Rattle.packet.specs.Split.{countOf, pieceFlag, pieceBytes, piece, piecesFrom, pieces}
 use Rattle.packet.proofs.Counts.{Several, several, bytes-several}
 use Rattle.packet.proofs.Pieces.{flag-several, count-pieces}
 use Rattle.stream.specs.declared.Progress.{Progress}
@@ -78,7 +78,7 @@ module _ (fields : Fields) (bytes a : List ℕ) (long : 8 < length bytes) (small
   z = pieceSize (formatOf fields)
 
   abbrev count : ℕ
-  count = pieceCount (pieceSize (formatOf fields)) (length bytes)
+  count = countOf (pieceSize (formatOf fields)) (length bytes)
 
   m : Several z (length bytes) count
   m = several z (length bytes) (some-bytes fm) (eight-bytes fm) long
@@ -173,13 +173,13 @@ module _ (fields : Fields) (bytes a : List ℕ) (long : 8 < length bytes) (small
 -- ---- a packet of one piece
 
 one-piece : (fields : Fields) (bytes : List ℕ) → leb (length bytes) 8 ≡ true → pieces fields bytes ≡ piece fields bytes 0 ∷ []
-unfolding pieces pieceCount piecesFrom
+unfolding pieces countOf piecesFrom
 one-piece fields bytes e = rw e
 
 in-one : (fields : Fields) (bytes a : List ℕ) (p : Progress) → leb (length bytes) 8 ≡ true
     → oneStream (formatOf fields) p a (piece fields bytes 0 ∷ [])
     ≡ record { answers = value (packet (length bytes) (collecting p)) ∷ []; progress = Done (length bytes); area = written a 0 bytes }
-unfolding pieceCount piece pieceFlag pieceBytes oneStream
+unfolding countOf piece pieceFlag pieceBytes oneStream
 in-one fields bytes a p e =
     ap (λ (s : Next). record { answers = s .answer ∷ []; progress = s .progress; area = s .area })
     (step-single (formatOf fields) p a (piece fields bytes 0) bytes (rw e) (rw e))

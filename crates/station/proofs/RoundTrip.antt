@@ -19,7 +19,7 @@ use Rattle.format.proofs.Checks.{pass, none-left}
 use Rattle.format.proofs.Limits.{most-bytes}
 use Rattle.frame.specs.Judge.{Frame, Judged}
 use Rattle.frame.specs.Image.{imageOf}
-use Rattle.packet.specs.Split.{pieceCount, piece, piecesFrom, pieces}
+use Rattle.packet.specs.Split.{countOf, piece, piecesFrom, pieces}
 use Rattle.packet.specs.Claims.{IsSplit, Splitting}
 use Rattle.packet.proofs.Pieces.{splitting, count-pieces}
 use Rattle.stream.specs.declared.Progress.the-variants.{Done}
@@ -95,7 +95,7 @@ module _ (key : Key) (bytes : List ℕ) (bus : leb (key .bus) 1 ≡ true) (split
   all-pieces : framesOf fm key (fed (key .bus) (pieces (key .fields) bytes)) ≡ pieces (key .fields) bytes
   unfolding pieces
   all-pieces =
-      let count = pieceCount (pieceSize fm) (length bytes) in
+      let count = countOf (pieceSize fm) (length bytes) in
       all-heard count 0 (omega (arith, count-pieces (key .fields) bytes count 0))
 
 -- ---- reading a slot that is done

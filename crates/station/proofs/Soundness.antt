@@ -13,7 +13,7 @@ use Rattle.format.specs.declared.Format.{Format}
 use Rattle.format.specs.declared.Format.the-variants.{Extended, Standard}
 use Rattle.format.specs.declared.Refusal.the-variants as refusal
 use Rattle.format.specs.Refusals.{Result, value, refused, Check, check, guarded, number}
-use Rattle.format.specs.Tests.{all, allAfter}
+use Rattle.format.specs.Tests.{allTrue, allAfter}
 use Rattle.format.proofs.Tests.{each, from-each}
 use Rattle.format.proofs.Checks.{passed, pass, none-left}
 use Rattle.frame.specs.Layout.{layout}
@@ -31,7 +31,7 @@ use Rattle.station.specs.declared.Station.{Station}
 use Rattle.station.specs.Stations.{newStation, soundStation, withSlots, area, fullSize}
 use Rattle.station.specs.Run.{examined}
 use Rattle.station.specs.Receive.{After, unchanged, keyOf, progressOf, stepAt, deliver, judgedAs, receive}
-use Rattle.station.specs.Open.{handed, opening, isOpen, closing}
+use Rattle.station.specs.Open.{changedAt, opening, isOpen, closing}
 use Rattle.station.specs.Demands.{IsStream, StaysSound, NeverLong, CanBeMet}
 use Rattle.station.proofs.Slots.{clashes, found, sound-set, differ-set}
 use Rattle.station.proofs.Steps.{Carrying, never-long}
@@ -85,11 +85,11 @@ opened-as station key r e i q =
     (opened-sound station key s (p .0 .1 .0) (p .0 .1 .1 .0) i, omega (arith, p .1, sixteen, low), omega (arith, p .1, low))
 
 open-keeps : (station : Station) (key : Key) → soundStation station ≡ true → (r : Result ℕ)
-    → guarded (openChecks station key) (place isClosed (station .slots)) ≡ r → soundStation (handed station (openSlot key Idle) r .station) ≡ true
+    → guarded (openChecks station key) (place isClosed (station .slots)) ≡ r → soundStation (changedAt station (openSlot key Idle) r .station) ≡ true
 open-keeps station key s (value i) e = opened-as station key (value i) e i refl .0
 open-keeps station key s (refused n) e = s
 
-close-keeps : (station : Station) → soundStation station ≡ true → (r : Result ℕ) → soundStation (handed station closedSlot r .station) ≡ true
+close-keeps : (station : Station) → soundStation station ≡ true → (r : Result ℕ) → soundStation (changedAt station closedSlot r .station) ≡ true
 unfolding slotSound
 close-keeps station s (value i) = set-sound station s i closedSlot refl (λ j n l. refl)
 close-keeps station s (refused n) = s
@@ -187,10 +187,10 @@ never station s standard store bus image = go (fullSize store) refl
 -- ---- the premises can be met
 
 new-sound : (format : Format) → soundStation (newStation format) ≡ true
-unfolding sound slotsSound slotSound keysDiffer all allAfter
+unfolding sound slotsSound slotSound keysDiffer allTrue allAfter
 new-sound format = refl
 
-opened-answer : (station : Station) (slot : Slot) (r : Result ℕ) (i : ℕ) → handed station slot r .answer ≡ value i → r ≡ value i
+opened-answer : (station : Station) (slot : Slot) (r : Result ℕ) (i : ℕ) → changedAt station slot r .answer ≡ value i → r ≡ value i
 opened-answer station slot (value j) i e = e
 opened-answer station slot (refused n) i e = let z : _≡_ {A = ℕ} 0 1 = cc in absurd (omega arith)
 
@@ -212,12 +212,12 @@ opens : (station : Station) (key : Key) → soundStation station ≡ true → ke
 unfolding opening
 opens station key s r f l =
     let free : not (ltb (place (hasKey key) (station .slots)) 16) ≡ true = rw f refl in
-    sym (ap (λ (x : Result ℕ). handed station (openSlot key Idle) x .answer)
+    sym (ap (λ (x : Result ℕ). changedAt station (openSlot key Idle) x .answer)
     (pass refusal.State _ _ s (pass refusal.Field _ _ r (pass refusal.Taken _ _ free (pass refusal.Full _ _ (lt-ltb _ 16 l) (none-left _))))))
 
 -- the streams that are open stay
 beside-as : (station : Station) (key : Key) (i : ℕ) (stream : Stream) → IsStream station i stream → (r : Result ℕ)
-    → guarded (openChecks station key) (place isClosed (station .slots)) ≡ r → IsStream (handed station (openSlot key Idle) r .station) i stream
+    → guarded (openChecks station key) (place isClosed (station .slots)) ≡ r → IsStream (changedAt station (openSlot key Idle) r .station) i stream
 beside-as station key i stream h (refused n) e = h
 beside-as station key i stream h (value j) e =
     let p = passed (openChecks station key) (place isClosed (station .slots)) j e in

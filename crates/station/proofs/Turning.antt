@@ -28,7 +28,7 @@ use Rattle.stream.specs.declared.Answer.the-variants.{Refused, Filtered}
 use Rattle.stream.specs.declared.Progress.{Progress}
 use Rattle.stream.specs.declared.Stepped.{Stepped}
 use Rattle.stream.specs.Answers.{meaning}
-use Rattle.stream.specs.Step.{Next, step, offered, after}
+use Rattle.stream.specs.Step.{Next, step, offered, nextOf}
 use Rattle.slot.specs.declared.Key.{Key}
 use Rattle.slot.specs.declared.Slot.{Slot}
 use Rattle.slot.specs.Slots.{closedSlot, openSlot, slotAt, hasKey, place}
@@ -200,12 +200,12 @@ offered-is format progress part frame l b = rw (eq-eqb (length part) 2048 l, le-
 
 pub steps : (format : Format) (slot : Slot) (i bus : ℕ) (frame : Frame) (store : List ℕ) → i < 16 → length store ≡ 32768 → length (frame .bytes) ≤ 8
     → (next : Stepped) (new : List ℕ) (slot′ : Slot) → slot′ ≡ openSlot (keyOf bus frame) (next .progress)
-    → (progress : Progress) (part bytes : List ℕ) → after next new ≡ offered format progress part (frame .flag) (frame .number) bytes
+    → (progress : Progress) (part bytes : List ℕ) → nextOf next new ≡ offered format progress part (frame .flag) (frame .number) bytes
     → progress ≡ progressOf slot → part ≡ area store i → bytes ≡ frame .bytes
     → Steps format slot i (keyOf bus frame) frame store (turnOf i slot′ (next .answer)) (putMid (2048 * i) (2048 * i + 2048 - 2048 * i) store new)
 unfolding area
 steps format slot i bus frame store h w b next new slot′ es progress part bytes e ep ea eb =
-    let made : after next new ≡ step format (progressOf slot) (area store i) frame =
+    let made : nextOf next new ≡ step format (progressOf slot) (area store i) frame =
     e ∙ (λ k. offered format (ep k) (ea k) (frame .flag) (frame .number) (eb k))
     ∙ offered-is format (progressOf slot) (area store i) frame (area-length 2048 16 store w i h) b in
     record {

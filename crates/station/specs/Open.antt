@@ -7,7 +7,7 @@ use lib.Dec.{ltb}
 use lib.ListN.{set}
 use Rattle.format.specs.declared.Refusal.the-variants as refusal
 use Rattle.format.specs.Refusals.{Result, value, refused, check, guarded, meaning}
-use Rattle.format.specs.Tests.{all}
+use Rattle.format.specs.Tests.{allTrue}
 use Rattle.stream.specs.declared.Progress.the-variants.{Idle}
 use Rattle.slot.specs.declared.Key.{Key}
 use Rattle.slot.specs.declared.Slot.{Slot}
@@ -18,21 +18,21 @@ use Rattle.station.specs.declared.Changed.{Changed}
 use Rattle.station.specs.Stations.{soundStation, withSlots}
 
 -- the answer, and the station handed back
-pub record Handed : Type 0 where
+pub record StationAfter : Type 0 where
   pub answer : Result ℕ
   pub station : Station
 
 -- slot i becomes that; a refusal hands back the station handed in
-abbrev pub handed : Station → Slot → Result ℕ → Handed
-handed station slot (value i) = record { answer = value i; station = withSlots station (set (station .slots) i slot) }
-handed station slot (refused n) = record { answer = refused n; station = station }
+abbrev pub changedAt : Station → Slot → Result ℕ → StationAfter
+changedAt station slot (value i) = record { answer = value i; station = withSlots station (set (station .slots) i slot) }
+changedAt station slot (refused n) = record { answer = refused n; station = station }
 
 -- FIELD: a field or bus of the key is out of range, or its fields are of the other format. TAKEN: key already open. FULL: all 16
 -- open
-unfoldable pub opening : Station → Key → Handed
+unfoldable pub opening : Station → Key → StationAfter
 opening station key =
     let lowest : ℕ = place isClosed (station .slots) in
-    handed station (openSlot key Idle)
+    changedAt station (openSlot key Idle)
     (guarded
     (check refusal.State (soundStation station)
     ∷ check refusal.Field (keyInRange (station .format) key)
@@ -43,13 +43,13 @@ opening station key =
 
 -- CLOSED: slot number over 15 or slot closed
 unfoldable pub isOpen : List Slot → ℕ → Bool
-isOpen slots i = all (ltb i 16 ∷ not (isClosed (slotAt slots i)) ∷ [])
+isOpen slots i = allTrue (ltb i 16 ∷ not (isClosed (slotAt slots i)) ∷ [])
 
-unfoldable pub closing : Station → ℕ → Handed
+unfoldable pub closing : Station → ℕ → StationAfter
 closing station i =
-    handed station closedSlot
+    changedAt station closedSlot
     (guarded (check refusal.State (soundStation station) ∷ check refusal.Closed (isOpen (station .slots) i) ∷ []) i)
 
 -- what the code hands back says
-abbrev pub after : Changed → Handed
-after r = record { answer = meaning (r .answer); station = r .station }
+abbrev pub stationAfter : Changed → StationAfter
+stationAfter r = record { answer = meaning (r .answer); station = r .station }

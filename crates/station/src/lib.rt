@@ -243,7 +243,7 @@ impl Station {
     // Opens a key in the lowest closed slot and answers that slot's number, or refuses: STATE,
     // FIELD, TAKEN, FULL.
     pub fn open(mut self, key: Key) -> Changed
-        ensures { λ r. ⌜ handing.after r ≡ handing.opening self key ⌝ }
+        ensures { λ r. ⌜ handing.stationAfter r ≡ handing.opening self key ⌝ }
     {
         let format = self.format;
         let slots = self.slots;
@@ -284,7 +284,7 @@ impl Station {
 
     // Closes a slot and answers its number, or refuses: STATE, CLOSED.
     pub fn close(mut self, i: usize) -> Changed
-        ensures { λ r. ⌜ handing.after r ≡ handing.closing self i ⌝ }
+        ensures { λ r. ⌜ handing.stationAfter r ≡ handing.closing self i ⌝ }
     {
         let format = self.format;
         let slots = self.slots;

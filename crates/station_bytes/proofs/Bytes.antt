@@ -11,7 +11,7 @@ use borrow.Author.Tests.{eqb-true, leb-true}
 use Rattle.copying.specs.Copy.{written, copied}
 use Rattle.copying.proofs.Copying.{all-copied}
 use Rattle.format.specs.declared.Format.{Format}
-use Rattle.format.specs.Tests.{all}
+use Rattle.format.specs.Tests.{allTrue}
 use Rattle.format.proofs.Tests.{each}
 use Rattle.stream.specs.declared.Progress.{Progress}
 use Rattle.slot.specs.declared.Key.{Key}
@@ -34,7 +34,7 @@ pub numbers : (format : Format) (first second : ℕ) → slotWritten format firs
 numbers format first second = go (eqb second 0) refl
   where
     go : (b : Bool) → eqb second 0 ≡ b
-        → cond b (eqb first 0) (all (eqb (keyCode (keyIn format first)) first ∷ eqb (progressNumber (progressFrom second)) second ∷ [])) ≡ true
+        → cond b (eqb first 0) (allTrue (eqb (keyCode (keyIn format first)) first ∷ eqb (progressNumber (progressFrom second)) second ∷ [])) ≡ true
         → (firstOf (cond b closedSlot (openSlot (keyIn format first) (progressFrom second)) .occupancy) ≡ first)
         × (secondOf (cond b closedSlot (openSlot (keyIn format first) (progressFrom second)) .occupancy) ≡ second)
     go true z e = (sym (eqb-true first 0 e), sym (eqb-true second 0 z))

@@ -13,7 +13,7 @@ use Rattle.format.specs.declared.Format.{Format}
 use Rattle.format.specs.declared.Refusal.{Refusal}
 use Rattle.format.specs.declared.Refusal.the-variants as refusal
 use Rattle.format.specs.Refusals.{Result, value, refused, number, guarded}
-use Rattle.format.specs.Tests.{all}
+use Rattle.format.specs.Tests.{allTrue}
 use Rattle.format.proofs.Tests.{each}
 use Rattle.frame.specs.Judge.{Frame, Judged, judge}
 use Rattle.stream.specs.declared.Answer.{Answer}
@@ -40,7 +40,7 @@ use Rattle.station.specs.Parts.{refusedAs, Steps}
 use Rattle.station.proofs.Turning.{Leaves, names-none, unmoved, turnOf, at-store, at-field, at-image, at-none, at-slot}
 use Rattle.words.specs.Words.{wordBytes, wordAt}
 use Rattle.station_bytes.specs.States.{formatNumber, formatAt, progressNumber, progressFrom, keyIn, firstOf, slotIn, slotsFrom, slotsBytes, stateBytes, stationIn, isState}
-use Rattle.station_bytes.specs.Calls.{Received, received, receiveIn, afterReceiving}
+use Rattle.station_bytes.specs.Calls.{BytesAfter, inBytes, receiveIn, bytesAfter}
 use Rattle.station_bytes.specs.Parts.{Tested, StepsIn}
 use Rattle.station_bytes.proofs.Scans.{slots-length}
 use Rattle.station_bytes.proofs.Bytes.{put-second}
@@ -60,7 +60,7 @@ sound-of state codes r t e =
     record { is = both .0; ok = both .1 .0; same = t .same (both .0); theirs = t .theirs e }
 
 pub unsound : (state codes : List ℕ) (r : Bool) → Tested state r codes → r ≡ false → isState state ≡ true → soundStation (stationIn state) ≡ false
-unfolding all
+unfolding allTrue
 unsound state codes r t e i = go (isState state) (soundStation (stationIn state)) i (sym (t .told) ∙ e)
   where
     go : (a b : Bool) → a ≡ true → ((true && a) && b) ≡ false → b ≡ false
@@ -87,13 +87,13 @@ first-in (Open stream) key e = ap keyCode (sym (same-key (stream .key) key e))
 
 -- the bytes are no sound station's
 pub receive-state : (state codes : List ℕ) (r : Bool) → Tested state r codes → r ≡ false → (store : List ℕ) (bus : ℕ) (image : List ℕ)
-    → afterReceiving (Refused refusal.State) state store ≡ receiveIn state store bus image
+    → bytesAfter (Refused refusal.State) state store ≡ receiveIn state store bus image
 unfolding receiveIn receiving.receive guarded
 receive-state state codes r t e store bus image = go (isState state) refl
   where
     go : (b : Bool) → isState state ≡ b
-        → afterReceiving (Refused refusal.State) state store
-        ≡ cond b (received (receiving.receive (stationIn state) store bus image)) (record { answer = refused (number refusal.State); state = state; store = store })
+        → bytesAfter (Refused refusal.State) state store
+        ≡ cond b (inBytes (receiving.receive (stationIn state) store bus image)) (record { answer = refused (number refusal.State); state = state; store = store })
     go false i = refl
     go true i =
         rw (unsound state codes r t e i)
@@ -118,24 +118,24 @@ module _ (state codes : List ℕ) (s : Sound state codes) where
   key-place key i e = sym (e ∙ find-key format slots key codes each-sound (s .theirs))
 
   module _ (store : List ℕ) (bus : ℕ) (image : List ℕ) where
-    as-station : (after : After) → after ≡ receiving.receive (stationIn state) store bus image → received after ≡ receiveIn state store bus image
+    as-station : (after : After) → after ≡ receiving.receive (stationIn state) store bus image → inBytes after ≡ receiveIn state store bus image
     unfolding receiveIn
-    as-station after e = rw (s .is) (ap received e)
+    as-station after e = rw (s .is) (ap inBytes e)
 
     -- no slot changes
     kept : (answer : Answer) → unmoved format slots store bus image (names-none slots sixteen) answer ≡ receiving.receive (stationIn state) store bus image
-        → afterReceiving answer state store ≡ receiveIn state store bus image
+        → bytesAfter answer state store ≡ receiveIn state store bus image
     kept answer e =
         let l = names-none slots sixteen in
         ap (λ (bytes : List ℕ). record { answer = meaning answer; state = bytes; store = store })
         (sym (s .same) ∙ ap (λ (slots : List Slot). stateBytes (stationOf format slots)) (sym (l .kept)))
         ∙ as-station _ e
 
-    pub receive-store : length store ≢ 32768 → afterReceiving (Refused refusal.Store) state store ≡ receiveIn state store bus image
+    pub receive-store : length store ≢ 32768 → bytesAfter (Refused refusal.Store) state store ≡ receiveIn state store bus image
     receive-store w = kept (Refused refusal.Store) (at-store format slots store bus image (names-none slots sixteen) (s .ok) w)
 
     module _ (w : length store ≡ 32768) where
-      pub receive-field : 1 < bus → afterReceiving (Refused refusal.Field) state store ≡ receiveIn state store bus image
+      pub receive-field : 1 < bus → bytesAfter (Refused refusal.Field) state store ≡ receiveIn state store bus image
       receive-field b = kept (Refused refusal.Field) (at-field format slots store bus image (names-none slots sixteen) (s .ok) w b)
 
       module _ (b : bus ≤ 1) where
@@ -143,14 +143,14 @@ module _ (state codes : List ℕ) (s : Sound state codes) where
         unfolding refusedAs
         own-name own = rw (s .ok, eq-eqb (length store) 32768 w, le-leb bus 1 b)
 
-        pub receive-image : (own : Refusal) → refused (number own) ≡ judge format image → afterReceiving (Refused own) state store ≡ receiveIn state store bus image
+        pub receive-image : (own : Refusal) → refused (number own) ≡ judge format image → bytesAfter (Refused own) state store ≡ receiveIn state store bus image
         receive-image own e =
             let l = names-none slots sixteen in
             kept (Refused own)
             (ap (λ (name : Refusal). unmoved format slots store bus image l (Refused name)) (sym (own-name own)) ∙ at-image format slots store bus image l own e)
 
         module _ (judged : Judged) (e : value judged ≡ judge format image) (i : ℕ) (p : place (hasKey (keyOf bus (judged .frame))) slots ≡ i) where
-          pub receive-none : 16 ≤ i → afterReceiving Filtered state store ≡ receiveIn state store bus image
+          pub receive-none : 16 ≤ i → bytesAfter Filtered state store ≡ receiveIn state store bus image
           receive-none h = kept Filtered (at-none format slots store bus image (names-none slots sixteen) (s .ok) w b judged e i p h)
 
           -- the slot of the key steps
@@ -174,7 +174,7 @@ module _ (state codes : List ℕ) (s : Sound state codes) where
             its-first = first-in (slotAt slots i .occupancy) key has-it
 
             pub receive-step : (f : Format) → f ≡ format → (answer : Answer) (lastState lastStore : List ℕ) → StepsIn f i (judged .frame) state store answer lastState lastStore
-                → afterReceiving answer lastState lastStore ≡ receiveIn state store bus image
+                → bytesAfter answer lastState lastStore ≡ receiveIn state store bus image
             unfolding key
             receive-step f ef answer lastState lastStore u =
                 let t : StepsIn format i (judged .frame) state store answer lastState lastStore = rw ef at u in

@@ -15,7 +15,7 @@ use Rattle.format.specs.declared.Refusal.the-variants as refusal
 use Rattle.format.specs.declared.Outcome.the-variants.{Value, Refused}
 use Rattle.format.specs.Refusals.{Result, value, refused, number}
 use Rattle.format.specs.Formats.{formatOf}
-use Rattle.format.specs.Tests.{all}
+use Rattle.format.specs.Tests.{allTrue}
 use Rattle.format.proofs.Tests.{each, from-each}
 use Rattle.stream.specs.declared.Progress.{Progress}
 use Rattle.stream.specs.declared.Progress.the-variants.{Idle, Done}
@@ -34,17 +34,17 @@ use Rattle.station.specs.Read.{isDone, held, reading, lengthOf}
 use Rattle.station.proofs.Handing as station
 use Rattle.words.specs.Words.{wordBytes, wordAt}
 use Rattle.station_bytes.specs.States.{formatNumber, formatAt, progressFrom, keyIn, firstOf, secondOf, slotsFrom, stateBytes, stationIn, isState}
-use Rattle.station_bytes.specs.Calls.{Handed, handed, notState, openIn, closeIn, readIn, after}
+use Rattle.station_bytes.specs.Calls.{StateAfter, asState, notState, openIn, closeIn, readIn, stateAfter}
 use Rattle.station_bytes.specs.Parts.{Tested}
 use Rattle.station_bytes.proofs.Bytes.{put-both}
 use Rattle.station_bytes.proofs.Places.{slot-is, closed-is}
 use Rattle.station_bytes.proofs.Calling.{Sound, unsound, sixteen, key-place}
 
 -- a refusal hands back the station handed in, so the bytes stay
-refused-as : (state : List ℕ) → stateBytes (stationIn state) ≡ state → (n : ℕ) (given : handing.Handed)
-    → _≡_ {A = handing.Handed} (record { answer = refused n; station = stationIn state }) given
-    → _≡_ {A = Handed} (record { answer = refused n; state = state }) (handed given)
-refused-as state same n given e = ap (λ (l : List ℕ). record { answer = refused n; state = l }) (sym same) ∙ ap handed e
+refused-as : (state : List ℕ) → stateBytes (stationIn state) ≡ state → (n : ℕ) (given : handing.StationAfter)
+    → _≡_ {A = handing.StationAfter} (record { answer = refused n; station = stationIn state }) given
+    → _≡_ {A = StateAfter} (record { answer = refused n; state = state }) (asState given)
+refused-as state same n given e = ap (λ (l : List ℕ). record { answer = refused n; state = l }) (sym same) ∙ ap asState e
 
 -- the number of a key that is in range in some format
 same-as-own : (a b : Format) → sameFormat a b ≡ true → sameFormat b b ≡ true
@@ -62,22 +62,22 @@ own-number f key n r e =
 -- ---- the bytes are no sound station's
 
 module _ (state codes : List ℕ) (r : Bool) (t : Tested state r codes) (e : r ≡ false) where
-  not-sound : (given : handing.Handed)
-      → (soundStation (stationIn state) ≡ false → _≡_ {A = handing.Handed} (record { answer = refused 21; station = stationIn state }) given)
-      → notState state ≡ cond (isState state) (handed given) (notState state)
+  not-sound : (given : handing.StationAfter)
+      → (soundStation (stationIn state) ≡ false → _≡_ {A = handing.StationAfter} (record { answer = refused 21; station = stationIn state }) given)
+      → notState state ≡ cond (isState state) (asState given) (notState state)
   not-sound given f = go (isState state) refl
     where
-      go : (b : Bool) → isState state ≡ b → notState state ≡ cond b (handed given) (notState state)
+      go : (b : Bool) → isState state ≡ b → notState state ≡ cond b (asState given) (notState state)
       go false i = refl
       go true i = refused-as state (t .same i) 21 given (f (unsound state codes r t e i))
 
-  pub open-state : (key : Key) → after (Refused refusal.State) state ≡ openIn state key
+  pub open-state : (key : Key) → stateAfter (Refused refusal.State) state ≡ openIn state key
   unfolding openIn
   open-state key =
       not-sound (opening (stationIn state) key)
       (λ s. station.open-state (stationIn state) key refusal.State (sought-unsound (formatAt state) (slotsFrom (formatAt state) state 0 16) key s))
 
-  pub close-state : (i : ℕ) → after (Refused refusal.State) state ≡ closeIn state i
+  pub close-state : (i : ℕ) → stateAfter (Refused refusal.State) state ≡ closeIn state i
   unfolding closeIn
   close-state i = not-sound (closing (stationIn state) i) (λ s. station.close-state (stationIn state) i s)
 
@@ -99,11 +99,11 @@ module _ (state codes : List ℕ) (s : Sound state codes) where
   abbrev slots : List Slot
   slots = slotsFrom format state 0 16
 
-  open-is : (key : Key) → openIn state key ≡ handed (opening (stationIn state) key)
+  open-is : (key : Key) → openIn state key ≡ asState (opening (stationIn state) key)
   unfolding openIn
   open-is key = rw (s .is)
 
-  close-is : (i : ℕ) → closeIn state i ≡ handed (closing (stationIn state) i)
+  close-is : (i : ℕ) → closeIn state i ≡ asState (closing (stationIn state) i)
   unfolding closeIn
   close-is i = rw (s .is)
 
@@ -120,11 +120,11 @@ module _ (state codes : List ℕ) (s : Sound state codes) where
       cc
 
   module _ (key : Key) where
-    pub open-field : keyInRange format key ≡ false → after (Refused refusal.Field) state ≡ openIn state key
+    pub open-field : keyInRange format key ≡ false → stateAfter (Refused refusal.Field) state ≡ openIn state key
     open-field r = refused-as state (s .same) 9 _ (station.open-field (stationIn state) key (s .ok) r) ∙ sym (open-is key)
 
     module _ (r : keyInRange format key ≡ true) (k : ℕ) (p : place (hasKey key) slots ≡ k) where
-      pub open-taken : k < 16 → after (Refused refusal.Taken) state ≡ openIn state key
+      pub open-taken : k < 16 → stateAfter (Refused refusal.Taken) state ≡ openIn state key
       open-taken h =
           refused-as state (s .same) 14 _ (station.open-taken (stationIn state) key (s .ok) r (omega (arith, p, h))) ∙ sym (open-is key)
 
@@ -132,25 +132,25 @@ module _ (state codes : List ℕ) (s : Sound state codes) where
         none : 16 ≤ place (hasKey key) slots
         none = omega (arith, p, f)
 
-        pub open-full : 16 ≤ i → after (Refused refusal.Full) state ≡ openIn state key
+        pub open-full : 16 ≤ i → stateAfter (Refused refusal.Full) state ≡ openIn state key
         open-full h =
             refused-as state (s .same) 15 _ (station.open-full (stationIn state) key (s .ok) r none (omega (arith, e, h))) ∙ sym (open-is key)
 
         pub open-lowest : i < 16 → (last : List ℕ) (n : ℕ) → n ≡ keyCode key
             → last ≡ copied (copied state (8 * i) (wordBytes n)) (8 * i + 4) (wordBytes 65536)
-            → after (Value i) last ≡ openIn state key
+            → stateAfter (Value i) last ≡ openIn state key
         open-lowest h last n en el =
             ap (λ (l : List ℕ). record { answer = value i; state = l }) (el ∙ put-slot i h (openSlot key Idle) n 65536 en refl)
-            ∙ ap handed (station.open-lowest (stationIn state) key (s .ok) r none i e h)
+            ∙ ap asState (station.open-lowest (stationIn state) key (s .ok) r none i e h)
             ∙ sym (open-is key)
 
   -- whether slot i is open
   over-15 : (i : ℕ) → 16 ≤ i → isOpen slots i ≡ false
-  unfolding isOpen all
+  unfolding isOpen allTrue
   over-15 i h = rw (le-ltb i 16 h)
 
   is-open : (i : ℕ) → i < 16 → isOpen slots i ≡ not (eqb (wordAt state (8 * i + 4)) 0)
-  unfolding isOpen all
+  unfolding isOpen allTrue
   is-open i h = rw (lt-ltb i 16 h) (ap not (closed-is state i h format))
 
   pub not-open : (i n : ℕ) → i < 16 → n ≡ wordAt state (8 * i + 4) → eqb n 0 ≡ true → isOpen slots i ≡ false
@@ -159,17 +159,17 @@ module _ (state codes : List ℕ) (s : Sound state codes) where
   pub yes-open : (i n : ℕ) → i < 16 → n ≡ wordAt state (8 * i + 4) → eqb n 0 ≡ false → isOpen slots i ≡ true
   yes-open i n h e q = is-open i h ∙ ap not (ap (λ (m : ℕ). eqb m 0) (sym e) ∙ q)
 
-  pub close-closed : (i : ℕ) → isOpen slots i ≡ false → after (Refused refusal.Closed) state ≡ closeIn state i
+  pub close-closed : (i : ℕ) → isOpen slots i ≡ false → stateAfter (Refused refusal.Closed) state ≡ closeIn state i
   close-closed i o = refused-as state (s .same) 16 _ (station.close-closed (stationIn state) i (s .ok) o) ∙ sym (close-is i)
 
-  pub close-over : (i : ℕ) → 16 ≤ i → after (Refused refusal.Closed) state ≡ closeIn state i
+  pub close-over : (i : ℕ) → 16 ≤ i → stateAfter (Refused refusal.Closed) state ≡ closeIn state i
   close-over i h = close-closed i (over-15 i h)
 
   pub close-open : (i : ℕ) → i < 16 → isOpen slots i ≡ true → (last : List ℕ)
-      → last ≡ copied (copied state (8 * i) (wordBytes 0)) (8 * i + 4) (wordBytes 0) → after (Value i) last ≡ closeIn state i
+      → last ≡ copied (copied state (8 * i) (wordBytes 0)) (8 * i + 4) (wordBytes 0) → stateAfter (Value i) last ≡ closeIn state i
   close-open i h o last el =
       ap (λ (l : List ℕ). record { answer = value i; state = l }) (el ∙ put-slot i h closedSlot 0 0 refl refl)
-      ∙ ap handed (station.close-open (stationIn state) i (s .ok) o)
+      ∙ ap asState (station.close-open (stationIn state) i (s .ok) o)
       ∙ sym (close-is i)
 
   -- ---- reading

@@ -13,7 +13,7 @@ use Rattle.format.specs.declared.Format.the-variants.{Extended, Standard}
 use Rattle.frame.specs.Judge.{Frame}
 use Rattle.stream.specs.declared.Progress.{Progress}
 use Rattle.stream.specs.declared.Stepped.{Stepped}
-use Rattle.stream.specs.Step.{offered, after}
+use Rattle.stream.specs.Step.{offered, nextOf}
 use Rattle.slot.specs.Slots.{closedSlot, openSlot, slotAt, isClosed, place}
 use Rattle.slot.proofs.Places as places
 use Rattle.station.specs.Stations.{newStation, area}
@@ -64,7 +64,7 @@ module _ (format : Format) (state : List ℕ) (i : ℕ) where
 -- the step of slot i, by what the code calls
 pub steps-in : (format : Format) (i : ℕ) (frame : Frame) (state store : List ℕ) → i < 16 → length store ≡ 32768 → length (frame .bytes) ≤ 8
     → (next : Stepped) (new : List ℕ) (progress : Progress) (part bytes : List ℕ)
-    → after next new ≡ offered format progress part (frame .flag) (frame .number) bytes
+    → nextOf next new ≡ offered format progress part (frame .flag) (frame .number) bytes
     → progress ≡ progressFrom (wordAt state (8 * i + 4)) → part ≡ area store i → bytes ≡ frame .bytes
     → (n : ℕ) → n ≡ progressNumber (next .progress) → (last : List ℕ) → last ≡ copied state (8 * i + 4) (wordBytes n)
     → StepsIn format i frame state store (next .answer) last (putMid (2048 * i) (2048 * i + 2048 - 2048 * i) store new)

@@ -17,7 +17,7 @@ use Rattle.format.specs.declared.Fields.the-variants as fields
 use Rattle.format.specs.declared.Refusal.the-variants.{State}
 use Rattle.format.specs.Refusals.{refused, number, guarded}
 use Rattle.format.specs.Formats.{inRange}
-use Rattle.format.specs.Tests.{all}
+use Rattle.format.specs.Tests.{allTrue}
 use Rattle.format.proofs.Tests.{each, from-each}
 use Rattle.frame.specs.Claims.{Bytes}
 use Rattle.stream.specs.declared.Progress.{Progress}
@@ -250,7 +250,7 @@ module _ (state : List ℕ) (bytes : Bytes state) (none : (station : Station) �
       go true s = absurd (none (stationIn state) s (same-bytes state bytes e))
 
   tested : Tested state false (replicate 16 0)
-  unfolding all
+  unfolding allTrue
   tested =
       record {
         told = go (isState state) refl;
@@ -259,7 +259,7 @@ module _ (state : List ℕ) (bytes : Bytes state) (none : (station : Station) �
         sixteen = refl;
       }
     where
-      go : (b : Bool) → isState state ≡ b → false ≡ all (b ∷ soundStation (stationIn state) ∷ [])
+      go : (b : Bool) → isState state ≡ b → false ≡ allTrue (b ∷ soundStation (stationIn state) ∷ [])
       go false e = refl
       go true e = sym (unsound e)
 

@@ -10,7 +10,7 @@ use Rattle.stream.specs.declared.Progress.the-variants.{Idle, Collecting, Done}
 use Rattle.format.specs.declared.Format.{Format}
 use Rattle.format.specs.declared.Format.the-variants.{Extended, Standard}
 use Rattle.format.specs.Formats.{pieceSize, packetLimit, inRange}
-use Rattle.format.specs.Tests.{all, allAfter}
+use Rattle.format.specs.Tests.{allTrue, allAfter}
 use Rattle.slot.specs.Sound.{mostHeld, keyInRange, fits, slotSound}
 use Rattle.slot.specs.Slots.{closedSlot, openSlot}
 use Rattle.slot.specs.Codes.{keyCode, slotCode}
@@ -37,8 +37,8 @@ extended-digits : (n p q4 f q7 b q8 s q16 g d : ℕ) → n ≡ p + q4 * 4 → q4
     → p + s * 256 + g * 65536 + d * 16777216 + f * 4 + b * 128 ≡ n
 extended-digits n p q4 f q7 b q8 s q16 g d h4 h7 h8 h16 h24 = omega arith
 
-tidy-extended : (s g d : Bool) → all (true ∷ all (true ∷ true ∷ all (true ∷ s ∷ g ∷ d ∷ true ∷ []) ∷ []) ∷ []) ≡ ((s && g) && d)
-unfolding all
+tidy-extended : (s g d : Bool) → allTrue (true ∷ allTrue (true ∷ true ∷ allTrue (true ∷ s ∷ g ∷ d ∷ true ∷ []) ∷ []) ∷ []) ≡ ((s && g) && d)
+unfolding allTrue
 tidy-extended true true true = refl
 tidy-extended true true false = refl
 tidy-extended true false d = refl
@@ -73,8 +73,8 @@ module _ (n p q4 f q7 b q8 a q14 x q16 : ℕ) (h4 : n ≡ p + q4 * 4) (h7 : q4 �
       let zx : x ≡ 1 = omega arith in
       both-true (eqb f 0) (eqb x 1) (eq-eqb f 0 (omega arith)) (eq-eqb x 1 zx))
 
-tidy-standard : (w s : Bool) → all (w ∷ all (true ∷ true ∷ all (true ∷ true ∷ s ∷ []) ∷ []) ∷ []) ≡ (w && s)
-unfolding all
+tidy-standard : (w s : Bool) → allTrue (w ∷ allTrue (true ∷ true ∷ allTrue (true ∷ true ∷ s ∷ []) ∷ []) ∷ []) ≡ (w && s)
+unfolding allTrue
 tidy-standard true s = refl
 tidy-standard false s = refl
 
@@ -97,13 +97,13 @@ tested format k h =
     || (eqb k 2 && ((eqb (h % pieceSize format) 0 && leb (pieceSize format) h) && leb h (mostHeld format))))
     || (eqb k 3 && leb h (packetLimit format))
 
-tidy-idle : (b : Bool) → all (b ∷ true ∷ []) ≡ ((b || false) || false)
-unfolding all
+tidy-idle : (b : Bool) → allTrue (b ∷ true ∷ []) ≡ ((b || false) || false)
+unfolding allTrue
 tidy-idle true = refl
 tidy-idle false = refl
 
-tidy-collecting : (a b c : Bool) → all (true ∷ all (a ∷ b ∷ c ∷ []) ∷ []) ≡ ((false || ((a && b) && c)) || false)
-unfolding all
+tidy-collecting : (a b c : Bool) → allTrue (true ∷ allTrue (a ∷ b ∷ c ∷ []) ∷ []) ≡ ((false || ((a && b) && c)) || false)
+unfolding allTrue
 tidy-collecting true true true = refl
 tidy-collecting true true false = refl
 tidy-collecting true false c = refl
@@ -111,11 +111,11 @@ tidy-collecting false b c = refl
 
 progress-parts : (format : Format) (n k h : ℕ) → n ≡ k * 65536 + h → h < 65536
     → tested format k h
-    ≡ all
+    ≡ allTrue
     (eqb (progressNumber (cond (eqb k 1) Idle (cond (eqb k 2) (Collecting h) (Done h)))) n
     ∷ fits format (cond (eqb k 1) Idle (cond (eqb k 2) (Collecting h) (Done h)))
     ∷ [])
-unfolding fits all
+unfolding fits allTrue
 progress-parts format n zero h e l = rw (ne-eqb (196608 + h) n (λ q. omega arith))
 progress-parts format n (suc zero) h e l =
     let same : eqb 65536 n ≡ eqb h 0 = alike (eqb 65536 n) (eqb h 0) (λ q. let w = eqb-true 65536 n q in eq-eqb h 0 (omega arith)) (λ q. let w = eqb-true h 0 q in eq-eqb 65536 n (omega arith)) in
@@ -134,14 +134,14 @@ progress-fits format n = progress-parts format n (n / 65536) (n % 65536) (omega 
 
 -- ---- both
 
-tidy-closed : (f k : Bool) → (f || (k && false)) ≡ all (f ∷ true ∷ [])
-unfolding all
+tidy-closed : (f k : Bool) → (f || (k && false)) ≡ allTrue (f ∷ true ∷ [])
+unfolding allTrue
 tidy-closed true k = refl
 tidy-closed false true = refl
 tidy-closed false false = refl
 
-pub tidy-open : (kw kr pw pf : Bool) → (all (kw ∷ kr ∷ []) && all (pw ∷ pf ∷ [])) ≡ all (all (kw ∷ pw ∷ []) ∷ all (kr ∷ pf ∷ []) ∷ [])
-unfolding all
+pub tidy-open : (kw kr pw pf : Bool) → (allTrue (kw ∷ kr ∷ []) && allTrue (pw ∷ pf ∷ [])) ≡ allTrue (allTrue (kw ∷ pw ∷ []) ∷ allTrue (kr ∷ pf ∷ []) ∷ [])
+unfolding allTrue
 tidy-open true true pw pf = cases pw
   where
     cases : (pw : Bool) → (true && ((true && pw) && pf)) ≡ ((true && ((true && true) && pw)) && ((true && true) && pf))
@@ -159,8 +159,8 @@ record-good format first second = go (eqb second 0) refl
   where
     go : (b : Bool) → eqb second 0 ≡ b
         → ((b && eqb first 0) || (keyFits format first && progressFits format second))
-        ≡ all
-        (cond b (eqb first 0) (all (eqb (keyCode (keyIn format first)) first ∷ eqb (progressNumber (progressFrom second)) second ∷ []))
+        ≡ allTrue
+        (cond b (eqb first 0) (allTrue (eqb (keyCode (keyIn format first)) first ∷ eqb (progressNumber (progressFrom second)) second ∷ []))
         ∷ slotSound format (cond b closedSlot (openSlot (keyIn format first) (progressFrom second)) .occupancy)
         ∷ [])
     go true e =
@@ -176,7 +176,7 @@ pub record-code : (format : Format) (i first second : ℕ) → slotWritten forma
 record-code format i first second = go (eqb second 0)
   where
     go : (b : Bool)
-        → cond b (eqb first 0) (all (eqb (keyCode (keyIn format first)) first ∷ eqb (progressNumber (progressFrom second)) second ∷ [])) ≡ true
+        → cond b (eqb first 0) (allTrue (eqb (keyCode (keyIn format first)) first ∷ eqb (progressNumber (progressFrom second)) second ∷ [])) ≡ true
         → slotCode (cond b closedSlot (openSlot (keyIn format first) (progressFrom second)) .occupancy) i ≡ cond b (1073741824 + i) first
     go true e = refl
     go false e = eqb-true (keyCode (keyIn format first)) first (each _ e .0)

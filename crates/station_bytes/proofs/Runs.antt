@@ -17,7 +17,7 @@ use Rattle.station.proofs.Soundness.{stays, met}
 use Rattle.station.proofs.Isolation.{demand3}
 use Rattle.station.proofs.RoundTrip.{round-trip}
 use Rattle.station_bytes.specs.States.{stateBytes, stationIn, isState}
-use Rattle.station_bytes.specs.Calls.{Received, received, receiveIn, Handed, handed, renewed, openIn, closeIn, readIn}
+use Rattle.station_bytes.specs.Calls.{BytesAfter, inBytes, receiveIn, StateAfter, asState, renewed, openIn, closeIn, readIn}
 use Rattle.station_bytes.specs.Claims.{ReadBack, AsFirst, AreSound, StaySound, Chained, lastOf, ended, AsRun, Demand3OnBytes, RoundTripOnBytes}
 use Rattle.station_bytes.proofs.ReadBack.{read-back}
 
@@ -41,9 +41,9 @@ as-first station s =
     let i = is station s in
     let b = back station s in
     record {
-      receives = λ store bus image. rw i (ap (λ (x : Station). received (receive x store bus image)) b);
-      opens = λ key. rw i (ap (λ (x : Station). handed (opening x key)) b);
-      closes = λ n. rw i (ap (λ (x : Station). handed (closing x n)) b);
+      receives = λ store bus image. rw i (ap (λ (x : Station). inBytes (receive x store bus image)) b);
+      opens = λ key. rw i (ap (λ (x : Station). asState (opening x key)) b);
+      closes = λ n. rw i (ap (λ (x : Station). asState (closing x n)) b);
       reads = λ store n. rw i (ap (λ (x : Station). reading x store n) b);
     }
 
@@ -52,23 +52,23 @@ unfolding AsFirst StaysSound renewed
 stay-sound =
     record {
       receives = λ station s store bus image.
-          subst (λ (r : Received). AreSound (r .state)) (sym (as-first station s .receives store bus image))
+          subst (λ (r : BytesAfter). AreSound (r .state)) (sym (as-first station s .receives store bus image))
           (are-sound (receive station store bus image .station) (stays station s .2 store bus image));
       opens = λ station s key.
-          subst (λ (r : Handed). AreSound (r .state)) (sym (as-first station s .opens key)) (are-sound (opening station key .station) (stays station s .0 key));
+          subst (λ (r : StateAfter). AreSound (r .state)) (sym (as-first station s .opens key)) (are-sound (opening station key .station) (stays station s .0 key));
       closes = λ station s i.
-          subst (λ (r : Handed). AreSound (r .state)) (sym (as-first station s .closes i)) (are-sound (closing station i .station) (stays station s .1 i));
+          subst (λ (r : StateAfter). AreSound (r .state)) (sym (as-first station s .closes i)) (are-sound (closing station i .station) (stays station s .1 i));
       new = λ state n format. rw (eq-eqb (length state) 129 n) (are-sound (newStation format) (met .new format));
     }
 
 -- ---- calls one after the other
 
-record IsRun (station : Station) (store : List ℕ) (calls : List Call) (givens : List Received) : Type 0 where
+record IsRun (station : Station) (store : List ℕ) (calls : List Call) (givens : List BytesAfter) : Type 0 where
   pub same : ended (stateBytes station) store givens ≡ run station store calls
   pub last : lastOf (stateBytes station) givens ≡ stateBytes (run station store calls .station)
   pub ok : soundStation (run station store calls .station) ≡ true
 
-is-run : (station : Station) → soundStation station ≡ true → (calls : List Call) (store : List ℕ) (givens : List Received)
+is-run : (station : Station) → soundStation station ≡ true → (calls : List Call) (store : List ℕ) (givens : List BytesAfter)
     → Chained (stateBytes station) store calls givens → IsRun station store calls givens
 unfolding Chained ended lastOf runOn AsFirst StaysSound
 is-run station s [] store [] c =
@@ -77,7 +77,7 @@ is-run station s [] store (given ∷ givens) c = absurd c
 is-run station s (call ∷ calls) store [] c = absurd c
 is-run station s (call ∷ calls) store (given ∷ givens) c =
     let first = receive station store (call .bus) (call .image) in
-    let of : Received → Type 0 = λ g. Chained (g .state) (g .store) calls givens → IsRun station store (call ∷ calls) (g ∷ givens) in
+    let of : BytesAfter → Type 0 = λ g. Chained (g .state) (g .store) calls givens → IsRun station store (call ∷ calls) (g ∷ givens) in
     subst of (sym (c .0 ∙ as-first station s .receives store (call .bus) (call .image)))
     (λ d.
     let rest = is-run (first .station) (stays station s .2 store (call .bus) (call .image)) calls (first .store) givens d in

@@ -9,7 +9,7 @@ use lib.ListN.{length, getD, set}
 use lib.Seq.{paste}
 use borrow.Author.Tests.{eq-eqb, ne-eqb, le-leb, lt-leb}
 use Rattle.format.specs.declared.Format.{Format}
-use Rattle.format.specs.Tests.{all}
+use Rattle.format.specs.Tests.{allTrue}
 use Rattle.format.proofs.Tests.{each}
 use mathlib.Core.Logic.{_≢_}
 use Rattle.slot.specs.declared.Slot.{Slot}
@@ -36,7 +36,7 @@ module _ (format : Format) (state : List ℕ) (i : ℕ) where
 
   pub good-turn : (good : Bool) → i < 16
       → (good && recordsGood format state i (16 - i)) ≡ ((good && good-at) && recordsGood format state (i + 1) (16 - (i + 1)))
-  unfolding recordsGood all
+  unfolding recordsGood allTrue
   good-turn good h =
       let e : 16 - i ≡ suc (16 - (i + 1)) = omega arith in
       ap (λ (n : ℕ). good && recordsGood format state i n) e
@@ -84,12 +84,12 @@ module _ (format : Format) (state : List ℕ) where
 
   -- good records are written, and of sound slots
   pub records : (i n : ℕ) → recordsGood format state i n ≡ (slotsWritten format state i n && slotsSound format (slotsFrom format state i n))
-  unfolding recordsGood recordGood slotsWritten slotsFrom slotsSound all
+  unfolding recordsGood recordGood slotsWritten slotsFrom slotsSound allTrue
   records i zero = refl
   records i (suc n) =
       let first = wordAt state (8 * i) in
       let second = wordAt state (8 * i + 4) in
-      ap (λ (b : Bool). all (all (slotWritten format first second ∷ slotSound format (slotIn format first second .occupancy) ∷ []) ∷ b ∷ [])) (records (i + 1) n)
+      ap (λ (b : Bool). allTrue (allTrue (slotWritten format first second ∷ slotSound format (slotIn format first second .occupancy) ∷ []) ∷ b ∷ [])) (records (i + 1) n)
       ∙ sym (tidy-open (slotWritten format first second) (slotsWritten format state (i + 1) n) (slotSound format (slotIn format first second .occupancy)) (slotsSound format (slotsFrom format state (i + 1) n)))
 
   -- the codes of written records are those of their slots
@@ -113,18 +113,18 @@ module _ (state : List ℕ) where
   slots = slotsFrom (formatAt state) state 0 16
 
   abbrev tested : Bool
-  tested = all (isState state ∷ soundStation (stationIn state) ∷ [])
+  tested = allTrue (isState state ∷ soundStation (stationIn state) ∷ [])
 
-  none-after : (b : Bool) → isState state ≡ false → all (isState state ∷ b ∷ []) ≡ false
-  unfolding all
+  none-after : (b : Bool) → isState state ≡ false → allTrue (isState state ∷ b ∷ []) ≡ false
+  unfolding allTrue
   none-after b e = rw e
 
   pub not-length : length state ≢ 129 → isState state ≡ false
-  unfolding isState all
+  unfolding isState allTrue
   not-length h = rw (ne-eqb (length state) 129 h)
 
   pub not-format : 1 < getD state 128 0 → isState state ≡ false
-  unfolding isState all
+  unfolding isState allTrue
   not-format h = rw (lt-leb (getD state 128 0) 1 h) (and-false (eqb (length state) 129))
     where
       and-false : (b : Bool) → ((b && false) && slotsWritten (formatAt state) state 0 16) ≡ false
@@ -136,11 +136,11 @@ module _ (state : List ℕ) where
 
   module _ (n : length state ≡ 129) (f : getD state 128 0 ≤ 1) where
     is-written : isState state ≡ slotsWritten (formatAt state) state 0 16
-    unfolding isState all
+    unfolding isState allTrue
     is-written = rw (eq-eqb (length state) 129 n, le-leb (getD state 128 0) 1 f)
 
     pub not-good : recordsGood (formatAt state) state 0 16 ≡ false → tested ≡ false
-    unfolding all sound
+    unfolding allTrue sound
     not-good e =
         rw is-written (go (slotsWritten (formatAt state) state 0 16) (slotsSound (formatAt state) slots) (eqb (length slots) 16) (keysDiffer slots) (sym (records (formatAt state) state 0 16) ∙ e))
       where
@@ -157,7 +157,7 @@ module _ (state : List ℕ) where
       its-codes = codes-same (formatAt state) state 0 16 (both .0)
 
       pub good-tested : not (clashing (recordCodes state 0 16)) ≡ tested
-      unfolding all
+      unfolding allTrue
       good-tested =
           sym (sound-codes (formatAt state) slots (slots-length (formatAt state) state 0 16) (recordCodes state 0 16) (both .1) its-codes)
           ∙ sym (rw (is-written, both .0))

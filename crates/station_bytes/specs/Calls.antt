@@ -21,48 +21,48 @@ use Rattle.station.specs.Read as reading
 use Rattle.station_bytes.specs.States.{stateBytes, stationIn, isState}
 
 -- the answer, and the bytes of state and store afterwards
-pub record Received : Type 0 where
+pub record BytesAfter : Type 0 where
   pub answer : Result Reply
   pub state : List ℕ
   pub store : List ℕ
 
-abbrev pub received : receiving.After → Received
-received after = record { answer = after .answer; state = stateBytes (after .station); store = after .store }
+abbrev pub inBytes : receiving.After → BytesAfter
+inBytes stateAfter = record { answer = stateAfter .answer; state = stateBytes (stateAfter .station); store = stateAfter .store }
 
-unfoldable pub receiveIn : (state store : List ℕ) (bus : ℕ) → List ℕ → Received
+unfoldable pub receiveIn : (state store : List ℕ) (bus : ℕ) → List ℕ → BytesAfter
 receiveIn state store bus image =
-    cond (isState state) (received (receiving.receive (stationIn state) store bus image))
+    cond (isState state) (inBytes (receiving.receive (stationIn state) store bus image))
     (record { answer = refused (number State); state = state; store = store })
 
 -- the answer, and the bytes of the state afterwards
-pub record Handed : Type 0 where
+pub record StateAfter : Type 0 where
   pub answer : Result ℕ
   pub state : List ℕ
 
-abbrev pub handed : handing.Handed → Handed
-handed given = record { answer = given .answer; state = stateBytes (given .station) }
+abbrev pub asState : handing.StationAfter → StateAfter
+asState given = record { answer = given .answer; state = stateBytes (given .station) }
 
-abbrev pub notState : List ℕ → Handed
+abbrev pub notState : List ℕ → StateAfter
 notState state = record { answer = refused (number State); state = state }
 
 -- any 129 bytes become a new station's; the answer is 0
-unfoldable pub renewed : List ℕ → Format → Handed
+unfoldable pub renewed : List ℕ → Format → StateAfter
 renewed state format =
     cond (eqb (length state) 129) (record { answer = value 0; state = stateBytes (newStation format) }) (notState state)
 
-unfoldable pub openIn : List ℕ → Key → Handed
-openIn state key = cond (isState state) (handed (handing.opening (stationIn state) key)) (notState state)
+unfoldable pub openIn : List ℕ → Key → StateAfter
+openIn state key = cond (isState state) (asState (handing.opening (stationIn state) key)) (notState state)
 
-unfoldable pub closeIn : List ℕ → ℕ → Handed
-closeIn state i = cond (isState state) (handed (handing.closing (stationIn state) i)) (notState state)
+unfoldable pub closeIn : List ℕ → ℕ → StateAfter
+closeIn state i = cond (isState state) (asState (handing.closing (stationIn state) i)) (notState state)
 
 -- the packet of slot i; a call that reads changes nothing
 unfoldable pub readIn : (state store : List ℕ) → ℕ → Result (List ℕ)
 readIn state store i = cond (isState state) (reading.reading (stationIn state) store i) (refused (number State))
 
 -- what the code's answers, and the bytes afterwards, say
-abbrev pub afterReceiving : Answer → (state store : List ℕ) → Received
-afterReceiving answer state store = record { answer = meaning answer; state = state; store = store }
+abbrev pub bytesAfter : Answer → (state store : List ℕ) → BytesAfter
+bytesAfter answer state store = record { answer = meaning answer; state = state; store = store }
 
-abbrev pub after : Outcome → List ℕ → Handed
-after outcome state = record { answer = outcomes.meaning outcome; state = state }
+abbrev pub stateAfter : Outcome → List ℕ → StateAfter
+stateAfter outcome state = record { answer = outcomes.meaning outcome; state = state }

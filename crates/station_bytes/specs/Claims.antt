@@ -24,7 +24,7 @@ use Rattle.station.specs.Read.{reading}
 use Rattle.station.specs.Run.{Call, Ran, run, framesOf, answersOf}
 use Rattle.station.specs.Demands.{IsStream, Isolated, SameFrames, Agree, fed, woven, answersTo}
 use Rattle.station_bytes.specs.States.{stateBytes, stationIn, isState}
-use Rattle.station_bytes.specs.Calls.{Received, received, receiveIn, handed, notState, renewed, openIn, closeIn, readIn}
+use Rattle.station_bytes.specs.Calls.{BytesAfter, inBytes, receiveIn, asState, notState, renewed, openIn, closeIn, readIn}
 
 -- ---- the bytes
 
@@ -54,9 +54,9 @@ NotWritten =
 -- on a station's bytes each call gives what the station's own gives
 pub record SameAs (station : Station) : Type 0 where
   pub receives : (store : List ℕ) (bus : ℕ) (image : List ℕ)
-      → receiveIn (stateBytes station) store bus image ≡ received (receive station store bus image)
-  pub opens : (key : Key) → openIn (stateBytes station) key ≡ handed (opening station key)
-  pub closes : (i : ℕ) → closeIn (stateBytes station) i ≡ handed (closing station i)
+      → receiveIn (stateBytes station) store bus image ≡ inBytes (receive station store bus image)
+  pub opens : (key : Key) → openIn (stateBytes station) key ≡ asState (opening station key)
+  pub closes : (i : ℕ) → closeIn (stateBytes station) i ≡ asState (closing station i)
   pub reads : (store : List ℕ) (i : ℕ) → readIn (stateBytes station) store i ≡ reading station store i
 
 -- so it is for every sound station
@@ -78,7 +78,7 @@ pub record StaySound : Type 0 where
 -- ---- calls one after the other
 
 -- each gets the state's and the store's bytes as the last left them, and what it gives meets the contract of `receive`
-unfoldable pub Chained : (state store : List ℕ) → List Call → List Received → Type 0
+unfoldable pub Chained : (state store : List ℕ) → List Call → List BytesAfter → Type 0
 Chained state store [] [] = Unit {0}
 Chained state store [] (given ∷ givens) = ⊥
 Chained state store (call ∷ calls) [] = ⊥
@@ -86,12 +86,12 @@ Chained state store (call ∷ calls) (given ∷ givens) =
     (given ≡ receiveIn state store (call .bus) (call .image)) × Chained (given .state) (given .store) calls givens
 
 -- the state's bytes in the end
-unfoldable pub lastOf : List ℕ → List Received → List ℕ
+unfoldable pub lastOf : List ℕ → List BytesAfter → List ℕ
 lastOf state [] = state
 lastOf state (given ∷ givens) = lastOf (given .state) givens
 
 -- the answers given, and in the end the station read from the bytes, and the store
-unfoldable pub ended : (state store : List ℕ) → List Received → Ran
+unfoldable pub ended : (state store : List ℕ) → List BytesAfter → Ran
 ended state store [] = record { answers = []; station = stationIn state; store = store }
 ended state store (given ∷ givens) =
     let rest : Ran = ended (given .state) (given .store) givens in
@@ -100,7 +100,7 @@ ended state store (given ∷ givens) =
 -- on the bytes of a sound station they are the run of the station's own `receive`, and the bytes in the end are those of its station
 unfoldable pub AsRun : Type 0
 AsRun =
-    (station : Station) → soundStation station ≡ true → (calls : List Call) (store : List ℕ) (givens : List Received)
+    (station : Station) → soundStation station ≡ true → (calls : List Call) (store : List ℕ) (givens : List BytesAfter)
     → Chained (stateBytes station) store calls givens
     → (ended (stateBytes station) store givens ≡ run station store calls)
     × (lastOf (stateBytes station) givens ≡ stateBytes (run station store calls .station))
@@ -109,9 +109,9 @@ AsRun =
 unfoldable pub Demand3OnBytes : Type 0
 Demand3OnBytes =
     (station : Station) (store : List ℕ) → soundStation station ≡ true → fullSize store ≡ true
-    → ((calls : List Call) (givens : List Received) → Chained (stateBytes station) store calls givens
+    → ((calls : List Call) (givens : List BytesAfter) → Chained (stateBytes station) store calls givens
     → Isolated station store calls (ended (stateBytes station) store givens))
-    × ((calls others : List Call) (givens otherGivens : List Received)
+    × ((calls others : List Call) (givens otherGivens : List BytesAfter)
     → Chained (stateBytes station) store calls givens → Chained (stateBytes station) store others otherGivens → SameFrames station calls others
     → Agree station calls others (ended (stateBytes station) store givens) (ended (stateBytes station) store otherGivens))
 
@@ -126,7 +126,7 @@ RoundTripOnBytes =
     → (choices : List Bool)
     → let frames = pieces (stream .key .fields) bytes in
     let calls = woven choices (fed (stream .key .bus) frames) others in
-    (givens : List Received) → Chained (stateBytes station) store calls givens
+    (givens : List BytesAfter) → Chained (stateBytes station) store calls givens
     → let ran = ended (stateBytes station) store givens in
     (readIn (lastOf (stateBytes station) givens) (ran .store) i ≡ value bytes)
     × (answersOf (station .format) (stream .key) calls (ran .answers) ≡ answersTo (length frames) (length bytes) (collecting (stream .progress)))

@@ -6,7 +6,7 @@ use mathlib.Core.List.{List, [], _∷_}
 use lib.Dec.{eqb}
 use lib.ListN.{length}
 use Rattle.format.specs.declared.Format.{Format}
-use Rattle.format.specs.Tests.{all}
+use Rattle.format.specs.Tests.{allTrue}
 use Rattle.slot.specs.Sound.{keyInRange, fits, slotSound}
 use Rattle.slot.specs.Codes.{keyCode, codesFrom}
 use Rattle.copying.specs.Copy.{copied}
@@ -20,19 +20,19 @@ use Rattle.station_bytes.specs.States.{keyIn, progressFrom, progressNumb
 
 -- the number of a key in range; of a progress that fits
 unfoldable pub keyFits : Format → ℕ → Bool
-keyFits format n = all (eqb (keyCode (keyIn format n)) n ∷ keyInRange format (keyIn format n) ∷ [])
+keyFits format n = allTrue (eqb (keyCode (keyIn format n)) n ∷ keyInRange format (keyIn format n) ∷ [])
 
 unfoldable pub progressFits : Format → ℕ → Bool
-progressFits format n = all (eqb (progressNumber (progressFrom n)) n ∷ fits format (progressFrom n) ∷ [])
+progressFits format n = allTrue (eqb (progressNumber (progressFrom n)) n ∷ fits format (progressFrom n) ∷ [])
 
 -- the two numbers are those of a sound slot
 unfoldable pub recordGood : Format → (first second : ℕ) → Bool
-recordGood format first second = all (slotWritten format first second ∷ slotSound format (slotIn format first second .occupancy) ∷ [])
+recordGood format first second = allTrue (slotWritten format first second ∷ slotSound format (slotIn format first second .occupancy) ∷ [])
 
 unfoldable pub recordsGood : Format → List ℕ → (i n : ℕ) → Bool
 recordsGood format state i zero = true
 recordsGood format state i (suc n) =
-    all (recordGood format (wordAt state (8 * i)) (wordAt state (8 * i + 4)) ∷ recordsGood format state (i + 1) n ∷ [])
+    allTrue (recordGood format (wordAt state (8 * i)) (wordAt state (8 * i + 4)) ∷ recordsGood format state (i + 1) n ∷ [])
 
 -- the code of slot i
 abbrev pub recordCode : (i first second : ℕ) → ℕ
@@ -44,7 +44,7 @@ recordCodes state i (suc n) = recordCode i (wordAt state (8 * i)) (wordAt state 
 
 -- what is found out of a state's bytes, and the codes then
 pub record Tested (state : List ℕ) (r : Bool) (codes : List ℕ) : Type 0 where
-  pub told : r ≡ all (isState state ∷ soundStation (stationIn state) ∷ [])
+  pub told : r ≡ allTrue (isState state ∷ soundStation (stationIn state) ∷ [])
   pub same : isState state ≡ true → stateBytes (stationIn state) ≡ state
   pub theirs : r ≡ true → codes ≡ codesFrom (stationIn state .slots) 0
   pub sixteen : length codes ≡ 16

@@ -10,7 +10,7 @@ use lib.ListN.{length, getD}
 use Rattle.format.specs.declared.Format.{Format}
 use Rattle.format.specs.declared.Format.the-variants.{Extended, Standard}
 use Rattle.format.specs.declared.Fields.the-variants as fields
-use Rattle.format.specs.Tests.{all}
+use Rattle.format.specs.Tests.{allTrue}
 use Rattle.stream.specs.declared.Progress.{Progress}
 use Rattle.stream.specs.declared.Progress.the-variants.{Idle, Collecting, Done}
 use Rattle.slot.specs.declared.Key.{Key}
@@ -89,13 +89,13 @@ stationIn state = stationOf (formatAt state) (slotsFrom (formatAt state) state 0
 abbrev pub slotWritten : Format → (first second : ℕ) → Bool
 slotWritten format first second =
     cond (eqb second 0) (eqb first 0)
-    (all (eqb (keyCode (keyIn format first)) first ∷ eqb (progressNumber (progressFrom second)) second ∷ []))
+    (allTrue (eqb (keyCode (keyIn format first)) first ∷ eqb (progressNumber (progressFrom second)) second ∷ []))
 
 unfoldable pub slotsWritten : Format → List ℕ → (i n : ℕ) → Bool
 slotsWritten format state i zero = true
 slotsWritten format state i (suc n) =
-    all (slotWritten format (wordAt state (8 * i)) (wordAt state (8 * i + 4)) ∷ slotsWritten format state (i + 1) n ∷ [])
+    allTrue (slotWritten format (wordAt state (8 * i)) (wordAt state (8 * i + 4)) ∷ slotsWritten format state (i + 1) n ∷ [])
 
 unfoldable pub isState : List ℕ → Bool
 isState state =
-    all (eqb (length state) 129 ∷ leb (getD state 128 0) 1 ∷ slotsWritten (formatAt state) state 0 16 ∷ [])
+    allTrue (eqb (length state) 129 ∷ leb (getD state 128 0) 1 ∷ slotsWritten (formatAt state) state 0 16 ∷ [])

@@ -30,7 +30,7 @@ ghost use Rattle.station.specs.Read.{lengthOf};
 ghost use Rattle.station.specs.Parts.{frameOf};
 ghost use Rattle.words.specs.Words.{wordBytes, wordAt};
 ghost use Rattle.station_bytes.specs.States.{formatNumber, formatIn, progressNumber, progressFrom, slotsFrom};
-ghost use Rattle.station_bytes.specs.Calls.{receiveIn, renewed, openIn, closeIn, readIn, afterReceiving, after};
+ghost use Rattle.station_bytes.specs.Calls.{receiveIn, renewed, openIn, closeIn, readIn, bytesAfter, stateAfter};
 ghost use Rattle.station_bytes.specs.Parts.{keyFits, progressFits, recordsGood, recordCodes, Tested, StepsIn};
 
 // The bytes of a state.
@@ -228,7 +228,7 @@ fn step_at(
 // Receives an image on a bus, as Station::receive does. Answers packet and its length, kept, filtered
 // or a refusal: STATE, STORE, FIELD, LENGTH, FORM, REMOTE, COUNT, PIECE, ORPHAN, STEP, LONG.
 pub fn receive(state: &mut [u8], store: &mut [u8], bus: u8, image: &[u8]) -> Answer
-    ensures { λ r. ⌜ afterReceiving r (now (state .exit)) (now (store .exit)) ≡ receiveIn (now (state .entry)) (now (store .entry)) bus (now (image .entry)) ⌝ }
+    ensures { λ r. ⌜ bytesAfter r (now (state .exit)) (now (store .exit)) ≡ receiveIn (now (state .entry)) (now (store .entry)) bus (now (image .entry)) ⌝ }
 {
     let mut codes = [0u32; 16];
     if !sound_codes(state, &mut codes) {
@@ -260,7 +260,7 @@ pub fn receive(state: &mut [u8], store: &mut [u8], bus: u8, image: &[u8]) -> Ans
 
 // Makes the bytes those of a new station of a format, with every slot closed, and answers 0, or refuses: STATE.
 pub fn new(state: &mut [u8], format: Format) -> Outcome
-    ensures { λ r. ⌜ after r (now (state .exit)) ≡ renewed (now (state .entry)) format ⌝ }
+    ensures { λ r. ⌜ stateAfter r (now (state .exit)) ≡ renewed (now (state .entry)) format ⌝ }
 {
     if state.len() != State::SIZE {
         return Outcome::Refused(Refusal::State);
@@ -297,7 +297,7 @@ fn put_record(state: &mut [u8], i: usize, first: u32, second: u32)
 
 // Opens a key in the lowest closed slot and answers that slot's number, or refuses: STATE, FIELD, TAKEN, FULL.
 pub fn open(state: &mut [u8], key: Key) -> Outcome
-    ensures { λ r. ⌜ after r (now (state .exit)) ≡ openIn (now (state .entry)) key ⌝ }
+    ensures { λ r. ⌜ stateAfter r (now (state .exit)) ≡ openIn (now (state .entry)) key ⌝ }
 {
     let mut codes = [0u32; 16];
     if !sound_codes(state, &mut codes) {
@@ -320,7 +320,7 @@ pub fn open(state: &mut [u8], key: Key) -> Outcome
 
 // Closes a slot and answers its number, or refuses: STATE, CLOSED.
 pub fn close(state: &mut [u8], i: usize) -> Outcome
-    ensures { λ r. ⌜ after r (now (state .exit)) ≡ closeIn (now (state .entry)) i ⌝ }
+    ensures { λ r. ⌜ stateAfter r (now (state .exit)) ≡ closeIn (now (state .entry)) i ⌝ }
 {
     let mut codes = [0u32; 16];
     if !sound_codes(state, &mut codes) {

@@ -18,12 +18,12 @@ use Rattle.stream.specs.declared.Progress.{Progress}
 use Rattle.stream.specs.declared.Progress.the-variants.{Idle, Collecting, Done}
 use Rattle.stream.specs.declared.Answer.the-variants.{Packet, Kept, Refused}
 use Rattle.stream.specs.declared.Stepped.{Stepped}
-use Rattle.stream.specs.Step.{Next, collecting, awaited, appended, followed, stepped, offered, after}
+use Rattle.stream.specs.Step.{Next, collecting, awaited, appended, followed, stepped, offered, nextOf}
 
 -- a middle or end while h bytes are held, which the code has as `held`
 module _ (z m : ℕ) (last : Bool) (h : ℕ) (area : List ℕ) (n : ℕ) (bytes : List ℕ) (held : ℕ) (e : held ≡ h) where
   abbrev Appended : Stepped → List ℕ → Type 0
-  Appended r next = after r next ≡ appended last h area bytes (eqb n (awaited z m h)) (leb (h + length bytes) 2048)
+  Appended r next = nextOf r next ≡ appended last h area bytes (eqb n (awaited z m h)) (leb (h + length bytes) 2048)
 
   pub out-of-step : (r : Stepped) → r ≡ record { answer = Refused Step; progress = Idle } → (n ≡ held / z % m → ⊥) → Appended r area
   unfolding appended
@@ -47,12 +47,12 @@ module _ (z m : ℕ) (last : Bool) (h : ℕ) (area : List ℕ) (n : ℕ) (bytes 
 -- a middle or end
 module _ (z m : ℕ) (last : Bool) (progress : Progress) (area : List ℕ) (n : ℕ) (bytes : List ℕ) where
   pub idle : (r : Stepped) → r ≡ record { answer = Refused Orphan; progress = progress } → progress ≡ Idle
-      → after r area ≡ followed z m last progress area n bytes
+      → nextOf r area ≡ followed z m last progress area n bytes
   unfolding followed
   idle r er e = rw (er, e)
 
   pub done : (h : ℕ) (r : Stepped) → r ≡ record { answer = Refused Orphan; progress = progress } → progress ≡ Done h
-      → after r area ≡ followed z m last progress area n bytes
+      → nextOf r area ≡ followed z m last progress area n bytes
   unfolding followed
   done h r er e = rw (er, e)
 
@@ -74,24 +74,24 @@ module _ (z m : ℕ) (progress : Progress) (area : List ℕ) (flag : Flag) (n : 
   module _ (broke : Bool) (b : broke ≡ collecting progress)
       (h : ℕ) (e : h ≡ 0 + length bytes) (next : List ℕ) (w : next ≡ written area 0 bytes) where
     pub as-start : flag ≡ Start
-        → after (record { answer = Kept broke; progress = Collecting h }) next ≡ stepped z m progress area flag n bytes
+        → nextOf (record { answer = Kept broke; progress = Collecting h }) next ≡ stepped z m progress area flag n bytes
     unfolding stepped
     as-start f = rw (f, b, e, zero-add, w)
 
     pub as-single : flag ≡ Single
-        → after (record { answer = Packet (length bytes) broke; progress = Done h }) next ≡ stepped z m progress area flag n bytes
+        → nextOf (record { answer = Packet (length bytes) broke; progress = Done h }) next ≡ stepped z m progress area flag n bytes
     unfolding stepped
     as-single f = rw (f, b, e, zero-add, w)
 
 -- the public call
 module _ (format : Format) (progress : Progress) (area : List ℕ) (flag : Flag) (n : ℕ) (bytes : List ℕ) where
   pub no-area : (r : Stepped) → r ≡ record { answer = Refused Store; progress = progress } → (length area ≡ 2048 → ⊥)
-      → after r area ≡ offered format progress area flag n bytes
+      → nextOf r area ≡ offered format progress area flag n bytes
   unfolding offered guarded
   no-area r e h = rw (e, ne-eqb (length area) 2048 h)
 
   pub too-many : (r : Stepped) → r ≡ record { answer = Refused Count; progress = progress } → length area ≡ 2048 → 8 < length bytes
-      → after r area ≡ offered format progress area flag n bytes
+      → nextOf r area ≡ offered format progress area flag n bytes
   unfolding offered guarded
   too-many r e h l = rw (e, eq-eqb (length area) 2048 h, lt-leb (length bytes) 8 l)
 

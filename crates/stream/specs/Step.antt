@@ -92,5 +92,5 @@ offered format progress area flag n bytes =
     (stepped (pieceSize format) (numberRange format) progress area flag n bytes))
 
 -- what the code hands back, and the area afterwards, say
-abbrev pub after : Stepped → List ℕ → Next
-after r area = record { answer = meaning (r .answer); progress = r .progress; area = area }
+abbrev pub nextOf : Stepped → List ℕ → Next
+nextOf r area = record { answer = meaning (r .answer); progress = r .progress; area = area }

@@ -7,7 +7,7 @@ ghost use Prim.Native.Nat.{_+_, _≤_, _<_};
 ghost use lib.Dec.{leb, eqb};
 ghost use lib.ListN.{length};
 ghost use Rattle.copying.specs.Copy.{written};
-ghost use Rattle.stream.specs.Step.{collecting, awaited, appended, followed, stepped, offered, after};
+ghost use Rattle.stream.specs.Step.{collecting, awaited, appended, followed, stepped, offered, nextOf};
 
 // How far a stream is. Collecting and Done hold h, the number of bytes at the head of the area.
 pub enum Progress {
@@ -90,7 +90,7 @@ fn append(
     area: &mut [u8],
 ) -> Stepped
     requires { ⌜ (0 < z) × (0 < m) × (length (now area) ≡ 2048) × (length (now bytes) ≤ 8) ⌝ }
-    ensures { λ r. ⌜ after r (now (area .exit)) ≡ appended last h (now (area .entry)) (now (bytes .entry)) (eqb number (awaited z m h)) (leb (h + length (now (bytes .entry))) 2048) ⌝ }
+    ensures { λ r. ⌜ nextOf r (now (area .exit)) ≡ appended last h (now (area .entry)) (now (bytes .entry)) (eqb number (awaited z m h)) (leb (h + length (now (bytes .entry))) 2048) ⌝ }
 {
     let held = wide(h);
     let awaited = held / z % m;
@@ -128,7 +128,7 @@ fn follow(
     area: &mut [u8],
 ) -> Stepped
     requires { ⌜ (0 < z) × (0 < m) × (length (now area) ≡ 2048) × (length (now bytes) ≤ 8) ⌝ }
-    ensures { λ r. ⌜ after r (now (area .exit)) ≡ followed z m last progress (now (area .entry)) number (now (bytes .entry)) ⌝ }
+    ensures { λ r. ⌜ nextOf r (now (area .exit)) ≡ followed z m last progress (now (area .entry)) number (now (bytes .entry)) ⌝ }
 {
     match progress {
         Progress::Idle => refuse(Refusal::Orphan, progress),
@@ -148,7 +148,7 @@ fn advance(
     area: &mut [u8],
 ) -> Stepped
     requires { ⌜ (0 < z) × (0 < m) × (length (now area) ≡ 2048) × (length (now bytes) ≤ 8) ⌝ }
-    ensures { λ r. ⌜ after r (now (area .exit)) ≡ stepped z m progress (now (area .entry)) flag number (now (bytes .entry)) ⌝ }
+    ensures { λ r. ⌜ nextOf r (now (area .exit)) ≡ stepped z m progress (now (area .entry)) flag number (now (bytes .entry)) ⌝ }
 {
     let broke = collecting(progress);
     match flag {
@@ -183,7 +183,7 @@ pub fn step(
     bytes: &[u8],
     area: &mut [u8],
 ) -> Stepped
-    ensures { λ r. ⌜ after r (now (area .exit)) ≡ offered format progress (now (area .entry)) flag number (now (bytes .entry)) ⌝ }
+    ensures { λ r. ⌜ nextOf r (now (area .exit)) ≡ offered format progress (now (area .entry)) flag number (now (bytes .entry)) ⌝ }
 {
     if area.len() != Area::SIZE {
         return refuse(Refusal::Store, progress);

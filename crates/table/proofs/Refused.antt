@@ -9,7 +9,7 @@ use borrow.Author.Tests.{ne-eqb}
 use Rattle.format.specs.declared.Format.{Format}
 use Rattle.format.specs.declared.Refusal.the-variants.{State}
 use Rattle.format.specs.Refusals.{refused, number, guarded}
-use Rattle.format.specs.Tests.{all}
+use Rattle.format.specs.Tests.{allTrue}
 use Rattle.slot.specs.declared.Slot.{Slot}
 use Rattle.slot.specs.Sound.{sound}
 use Rattle.station.specs.Stations.{stationOf}
@@ -17,7 +17,7 @@ use Rattle.station.specs.Receive.{receive}
 use Rattle.table.specs.Front.{afterIn}
 
 pub unsound-length : (format : Format) (table : List Slot) → length table ≢ 16 → sound format table ≡ false
-unfolding sound all
+unfolding sound allTrue
 unsound-length format table h = rw (ne-eqb (length table) 16 h) refl
 
 pub unsound-refused : (format : Format) (table : List Slot) (store : List ℕ) (bus : ℕ) (image : List ℕ) → sound format table ≡ false

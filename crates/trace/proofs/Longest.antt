@@ -17,12 +17,12 @@ use Rattle.frame.proofs.Flags.{bits-small}
 use Rattle.stream.specs.Answers.{Reply, meaning}
 use Rattle.trace.specs.declared.Line.{Line}
 use Rattle.trace.specs.declared.Line.the-variants as line
-use Rattle.trace.specs.Lines.{decimal, field, fields, busName, answerText, columns, header, frameLine, refusedLine, stoppedLine, countLine, lineText, listed, lineInRange}
+use Rattle.trace.specs.Lines.{decimal, field, fields, busName, answerText, columns, headerLine, frameLine, refusedLine, stoppedLine, countLine, lineText, extendedInRange, lineInRange}
 use Rattle.trace.specs.Claims.{Longest}
 use Rattle.trace.proofs.Texts.{decimal-length, field-short, field-byte, answer-short, bus-short}
 
 -- the eight fields
-columns-short : (id : Fields) (flag : Flag) (n count : ℕ) → listed id ≡ true → n ≤ 63 → count ≤ 8
+columns-short : (id : Fields) (flag : Flag) (n count : ℕ) → extendedInRange id ≡ true → n ≤ 63 → count ≤ 8
     → length (fields (columns id (flagBits flag) n count)) ≤ 32
 unfolding fields inRange
 columns-short (Extended p s g d f) flag n count r hn hc =
@@ -38,7 +38,7 @@ columns-short (Extended p s g d f) flag n count r hn hc =
     simp length-append (omega arith)
 columns-short (Standard p a s) flag n count r hn hc = omega arith
 
-frame-short : (r bus : ℕ) (id : Fields) (flag : Flag) (n count : ℕ) (answer : Result Reply) → listed id ≡ true → n ≤ 63 → count ≤ 8
+frame-short : (r bus : ℕ) (id : Fields) (flag : Flag) (n count : ℕ) (answer : Result Reply) → extendedInRange id ≡ true → n ≤ 63 → count ≤ 8
     → length (frameLine r bus id flag n count answer) ≤ 96
 unfolding frameLine
 frame-short r bus id flag n count answer l hn hc =
@@ -47,7 +47,7 @@ frame-short r bus id flag n count answer l hn hc =
     simp length-append (omega (arith, decimal-length r, answer-short answer))
 
 pub longest : Longest
-unfolding Longest lineText lineInRange header refusedLine stoppedLine countLine
+unfolding Longest lineText lineInRange headerLine refusedLine stoppedLine countLine
 longest line.Header h = omega arith
 longest (line.Frame r bus id flag n count answer) h =
     let t = each _ h in

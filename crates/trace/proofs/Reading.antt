@@ -7,7 +7,7 @@ use mathlib.Core.List.{List}
 use lib.Dec.{leb, ltb, eqb}
 use lib.ListN.{length, getD}
 use borrow.Author.Tests.{eq-eqb, ne-eqb, lt-ltb, le-ltb, leb-true}
-use Rattle.format.specs.Tests.{all, allAfter}
+use Rattle.format.specs.Tests.{allTrue, allAfter}
 use Rattle.trace.specs.Records.{Found, whole, damaged, cut, none, imageIn, recordAt}
 
 -- what a test that fails, or holds, picks
@@ -47,7 +47,7 @@ module _ (input : List ℕ) (follows : ℕ) (read : follows ≡ getD input 0 0 *
 
   module _ (some : length input ≢ 0) (two : 2 ≤ length input) where
     begins : cond right rest damaged ≡ recordAt input
-    unfolding recordAt all allAfter
+    unfolding recordAt allTrue allAfter
     begins = rw (ne-eqb (length input) 0 some, le-ltb (length input) 2 two, ← read)
 
     pub at-length : not right ≡ true → damaged ≡ recordAt input

@@ -13,7 +13,7 @@ use Rattle.copying.proofs.Copying.{all-copied}
 use Rattle.format.specs.Refusals.{Result, value, refused}
 use Rattle.format.specs.declared.Refusal.the-variants.{Field, Room}
 use Rattle.format.proofs.Checks.{stop, pass, none-left}
-use Rattle.packet.specs.Send.{answer, after}
+use Rattle.packet.specs.Send.{answer, outputAfter}
 use Rattle.trace.specs.declared.Line.{Line}
 use Rattle.trace.specs.Lines.{lineText, lineInRange, writing}
 use Rattle.trace.specs.Parts.{Put}
@@ -40,7 +40,7 @@ not-false false e = cc
 -- what the call answers, and the output afterwards
 abbrev pub Written : Line → List ℕ → Result ℕ → List ℕ → Type 0
 Written line output r last =
-    (r ≡ answer (writing line (length output))) × (last ≡ after (writing line (length output)) output)
+    (r ≡ answer (writing line (length output))) × (last ≡ outputAfter (writing line (length output)) output)
 
 module _ (line : Line) (output : List ℕ) where
   pub out-of-range : not (lineInRange line) ≡ true → Written line output (refused 9) output

@@ -13,7 +13,7 @@ use Rattle.format.specs.declared.Fields.{Fields}
 use Rattle.format.specs.declared.Fields.the-variants.{Extended, Standard}
 use Rattle.format.specs.declared.Flag.{Flag}
 use Rattle.format.specs.declared.Refusal.the-variants.{Field, Room}
-use Rattle.format.specs.Tests.{all}
+use Rattle.format.specs.Tests.{allTrue}
 use Rattle.format.specs.Formats.{inRange, flagBits}
 use Rattle.format.specs.Refusals.{Result, value, refused, check, guarded, number}
 use Rattle.stream.specs.Answers.{Reply, packet, kept, filtered, meaning}
@@ -59,8 +59,8 @@ answerText (refused n) = ascii " refused" ++ field n
 abbrev pub ended : List ℕ → List ℕ
 ended line = line ++ ascii "\n"
 
-unfoldable pub header : List ℕ
-header = ascii "record bus priority source group dest flag number function count answer\n"
+unfoldable pub headerLine : List ℕ
+headerLine = ascii "record bus priority source group dest flag number function count answer\n"
 
 -- the fields in the header's order: those of the identifier, with the flag and the piece's number between them, and the count
 abbrev pub columns : Fields → (flag n count : ℕ) → List ℕ
@@ -86,20 +86,20 @@ countLine n = ended (ascii "records" ++ field n)
 -- ---- the call that writes a line
 
 unfoldable pub lineText : Line → List ℕ
-lineText line.Header = header
+lineText line.Header = headerLine
 lineText (line.Frame r bus id flag n count answer) = frameLine r bus id flag n count (meaning answer)
 lineText (line.Refused r bus name) = refusedLine r bus (number name)
 lineText (line.Stopped r) = stoppedLine r
 lineText (line.Records n) = countLine n
 
 -- whether the fields are extended ones and, like the bus, the number and the count, in their ranges
-abbrev pub listed : Fields → Bool
-listed (Extended priority source group destination function) = inRange (Extended priority source group destination function)
-listed (Standard priority address side) = false
+abbrev pub extendedInRange : Fields → Bool
+extendedInRange (Extended priority source group destination function) = inRange (Extended priority source group destination function)
+extendedInRange (Standard priority address side) = false
 
 unfoldable pub lineInRange : Line → Bool
 lineInRange line.Header = true
-lineInRange (line.Frame r bus id flag n count answer) = all (leb bus 1 ∷ listed id ∷ leb n 63 ∷ leb count 8 ∷ [])
+lineInRange (line.Frame r bus id flag n count answer) = allTrue (leb bus 1 ∷ extendedInRange id ∷ leb n 63 ∷ leb count 8 ∷ [])
 lineInRange (line.Refused r bus name) = leb bus 1
 lineInRange (line.Stopped r) = true
 lineInRange (line.Records n) = true

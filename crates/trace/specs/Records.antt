@@ -5,7 +5,7 @@ use mathlib.Core.Bool.{cond}
 use mathlib.Core.List.{List, [], _∷_}
 use lib.Dec.{leb, ltb, eqb}
 use lib.ListN.{length, getD, take, drop}
-use Rattle.format.specs.Tests.{all}
+use Rattle.format.specs.Tests.{allTrue}
 use Rattle.trace.specs.declared.Entry.{Entry}
 use Rattle.trace.specs.declared.Entry.the-variants as entry
 
@@ -27,9 +27,9 @@ recordAt input =
     let follows : ℕ = byte 0 * 256 + byte 1 in
     cond (eqb (length input) 0) none
     (cond (ltb (length input) 2) cut
-    (cond (all (leb 2 follows ∷ leb follows 15 ∷ []))
+    (cond (allTrue (leb 2 follows ∷ leb follows 15 ∷ []))
     (cond (ltb (length input) (2 + follows)) cut
-    (cond (all (eqb (byte 2) 1 ∷ leb (byte 3) 1 ∷ [])) (whole (byte 3) (imageIn (2 + follows) input) (2 + follows)) damaged))
+    (cond (allTrue (eqb (byte 2) 1 ∷ leb (byte 3) 1 ∷ [])) (whole (byte 3) (imageIn (2 + follows) input) (2 + follows)) damaged))
     damaged))
 
 -- what the code's answer says of the bytes

@@ -12,9 +12,9 @@ ghost use Rattle.format.specs.Formats.{flagBits};
 ghost use Rattle.format.specs.Refusals.{refused, number};
 ghost use Rattle.format.specs.Refusals.{meaning as outcome·meaning};
 ghost use Rattle.stream.specs.Answers.{meaning as reply·meaning};
-ghost use Rattle.packet.specs.Send.{answer, after};
+ghost use Rattle.packet.specs.Send.{answer, outputAfter};
 ghost use Rattle.trace.specs.Records.{recordAt, meaning};
-ghost use Rattle.trace.specs.Lines.{ascii, decimal, field, busName, brokeOr, answerText, columns, frameLine, refusedLine, stoppedLine, countLine, lineText, listed, lineInRange, writing};
+ghost use Rattle.trace.specs.Lines.{ascii, decimal, field, busName, brokeOr, answerText, columns, frameLine, refusedLine, stoppedLine, countLine, lineText, extendedInRange, lineInRange, writing};
 ghost use Rattle.trace.specs.Lines.{fields as fields·text};
 ghost use Rattle.trace.specs.Parts.{Put};
 
@@ -320,7 +320,7 @@ fn put_line(text: &mut [u8; 96], line: Line) -> usize
 }
 
 fn is_listed(fields: Fields) -> bool
-    ensures { λ r. ⌜ r ≡ listed fields ⌝ }
+    ensures { λ r. ⌜ r ≡ extendedInRange fields ⌝ }
 {
     match fields {
         Fields::Extended {
@@ -365,7 +365,7 @@ fn line_in_range(line: Line) -> bool
 // Writes a line over the head of the output and answers its length, or refuses: FIELD, ROOM.
 pub fn write_line(line: Line, output: &mut [u8]) -> Outcome
     ensures { λ r. ⌜ outcome·meaning r ≡ answer (writing line (length (now (output .entry)))) ⌝ }
-    ensures { λ _. ⌜ now (output .exit) ≡ after (writing line (length (now (output .entry)))) (now (output .entry)) ⌝ }
+    ensures { λ _. ⌜ now (output .exit) ≡ outputAfter (writing line (length (now (output .entry)))) (now (output .entry)) ⌝ }
 {
     if !line_in_range(line) {
         return Outcome::Refused(Refusal::Field);

@@ -1,5 +1,5 @@
 -- `frame::end_rule` meets its contract: by the arms.
-use Rattle.format.specs.Tests.{all}
+use Rattle.format.specs.Tests.{allTrue}
 use Rattle.frame.specs.Judge.{pieceRule}
 use borrow.Author.Needs.{needs}
 use Rattle.frame.proofs.end_rule.Statement.{statement}
@@ -12,11 +12,11 @@ enum-told-2 : tie.Need-enum-told-2
 enum-told-2 c = search needs
 
 returns : tie.Need-returns
-unfolding pieceRule all
+unfolding pieceRule allTrue
 returns c = simp (c .enum-told .given .1)
 
 returns-2 : tie.Need-returns-2
-unfolding pieceRule all
+unfolding pieceRule allTrue
 returns-2 c = simp (c .enum-told2 .given .1)
 
 pub end-rule-spec : {M : Type 1} → statement M

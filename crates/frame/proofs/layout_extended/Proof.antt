@@ -1,6 +1,6 @@
 -- `frame::layout_extended` meets its contract: the bytes are there, and the record is that of the definition.
 use borrow.Author.Needs.{needs}
-use Rattle.format.specs.Tests.{all}
+use Rattle.format.specs.Tests.{allTrue}
 use Rattle.frame.specs.Layout.{layout}
 use Rattle.frame.proofs.layout_extended.Statement.{statement}
 use Rattle.frame.proofs.layout_extended.Tie as tie
@@ -27,7 +27,7 @@ packet-start-requires : tie.Need-packet-start-requires
 packet-start-requires c κs = search needs
 
 returns : tie.Need-returns
-unfolding layout all
+unfolding layout allTrue
 returns c = simp (c .packet-start .ensures, c .before .flag-of .ensures)
 
 pub layout-extended-spec : {M : Type 1} → statement M

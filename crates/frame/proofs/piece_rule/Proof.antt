@@ -1,5 +1,5 @@
 -- `frame::piece_rule` meets its contract: by the arms and the two rules that it calls.
-use Rattle.format.specs.Tests.{all}
+use Rattle.format.specs.Tests.{allTrue}
 use Rattle.frame.specs.Judge.{pieceRule}
 use borrow.Author.Needs.{needs}
 use Rattle.frame.proofs.piece_rule.Statement.{statement}
@@ -24,19 +24,19 @@ enum-told-4 : tie.Need-enum-told-4
 enum-told-4 c = search needs
 
 returns : tie.Need-returns
-unfolding pieceRule all
+unfolding pieceRule allTrue
 returns c = simp (c .before .enum-told .given .1, c .middle-rule .ensures)
 
 returns-2 : tie.Need-returns-2
-unfolding pieceRule all
+unfolding pieceRule allTrue
 returns-2 c = simp (c .enum-told2 .given .1)
 
 returns-3 : tie.Need-returns-3
-unfolding pieceRule all
+unfolding pieceRule allTrue
 returns-3 c = simp (c .before .enum-told3 .given .1, c .end-rule .ensures)
 
 returns-4 : tie.Need-returns-4
-unfolding pieceRule all
+unfolding pieceRule allTrue
 returns-4 c = simp (c .enum-told4 .given .1)
 
 pub piece-rule-spec : {M : Type 1} → statement M

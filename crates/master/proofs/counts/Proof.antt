@@ -1,5 +1,5 @@
 -- `master::counts` meets its contract: the tests are those of the definition.
-use Rattle.format.specs.Tests.{all}
+use Rattle.format.specs.Tests.{allTrue}
 use Rattle.master.specs.Masters.{chosenBus}
 use Rattle.master.specs.Exchanges.{counts}
 use borrow.Author.Needs.{needs}
@@ -16,7 +16,7 @@ array-read-latest : tie.Need-array-read-latest
 array-read-latest c = search needs
 
 returns : tie.Need-returns
-unfolding counts all chosenBus
+unfolding counts allTrue chosenBus
 returns c = rw (c .before .before .before .plan-of .ensures)
 
 pub counts-spec : {M : Type 1} → statement M

@@ -1,5 +1,5 @@
 -- `master::exchange_sound` meets its contract: the tests are those of the definition.
-use Rattle.format.specs.Tests.{all}
+use Rattle.format.specs.Tests.{allTrue}
 use Rattle.master.specs.Masters.{exchangeSound}
 use borrow.Author.Needs.{needs}
 use Rattle.master.proofs.exchange_sound.Statement.{statement}
@@ -15,11 +15,11 @@ plan-of-requires : tie.Need-plan-of-requires
 plan-of-requires c κs = search needs
 
 returns : tie.Need-returns
-unfolding exchangeSound all
+unfolding exchangeSound allTrue
 returns c = rw (c .enum-told .given .1)
 
 returns-2 : tie.Need-returns-2
-unfolding exchangeSound all
+unfolding exchangeSound allTrue
 returns-2 c = rw (c .before .before .before .before .plan-of .ensures, c .before .before .before .before .before .before .activity .given .1)
 
 pub exchange-sound-spec : {M : Type 1} → statement M

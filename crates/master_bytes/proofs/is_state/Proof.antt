@@ -2,13 +2,13 @@
 use borrow.Author.Needs.{needs}
 use borrow.Author.Tests.{eq-eqb, ne-eqb}
 use lib.ListN.{length}
-use Rattle.format.specs.Tests.{all}
+use Rattle.format.specs.Tests.{allTrue}
 use Rattle.master_bytes.specs.States.{isState}
 use Rattle.master_bytes.proofs.is_state.Statement.{statement}
 use Rattle.master_bytes.proofs.is_state.Tie as tie
 
 returns : tie.Need-returns
-unfolding isState all
+unfolding isState allTrue
 returns c = rw (ne-eqb (length (c .before .before .args .state .now)) 67 (c .if1 .taken))
 
 shared-slice-read-activity-written : tie.Need-shared-slice-read-activity-written
@@ -24,7 +24,7 @@ activity-written-requires : tie.Need-activity-written-requires
 activity-written-requires c κs = search needs
 
 returns-2 : tie.Need-returns-2
-unfolding isState all
+unfolding isState allTrue
 returns-2 c =
     let b = c .before .before .before .before in
     rw (eq-eqb (length (b .before .before .args .state .now)) 67 (b .if1 .left)) (c .activity-written .ensures)

@@ -1,12 +1,12 @@
 -- `packet::count_of` meets its contract: by the test.
 use borrow.Author.Tests.{le-leb, lt-leb}
-use Rattle.packet.specs.Split.{pieceCount}
+use Rattle.packet.specs.Split.{countOf}
 use borrow.Author.Needs.{needs}
 use Rattle.packet.proofs.count_of.Statement.{statement}
 use Rattle.packet.proofs.count_of.Tie as tie
 
 returns : tie.Need-returns
-unfolding pieceCount
+unfolding countOf
 returns c = simp (le-leb _ _ (c .if1 .taken))
 
 sub-result : tie.Need-sub-result
@@ -19,7 +19,7 @@ div-result : tie.Need-div-result
 div-result c = search needs
 
 returns-2 : tie.Need-returns-2
-unfolding pieceCount
+unfolding countOf
 returns-2 c = simp (lt-leb _ _ (c .if1 .left))
 
 pub count-of-spec : {M : Type 1} → statement M

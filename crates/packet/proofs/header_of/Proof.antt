@@ -4,7 +4,7 @@ use Prim.Native.Nat.{_≤_, _<_}
 use mathlib.Core.List.{[], _∷_}
 use lib.Dec.{leb}
 use Rattle.format.proofs.Tests.{Each, tests}
-use Rattle.frame.specs.Image.{header}
+use Rattle.frame.specs.Image.{headerBytes}
 use Rattle.frame.proofs.Flags.{bits-small}
 use Rattle.packet.specs.Parts.{filler}
 use Rattle.packet.proofs.Placing.{extended-range, standard-range}
@@ -83,14 +83,14 @@ add-t28 : tie.Need-add-t28
 add-t28 c = record { fits = omega (tests, standard c) }
 
 returns : tie.Need-returns
-unfolding header filler
+unfolding headerBytes filler
 returns c =
     let c1 = c .before in
     let c3 = c1 .before .before in
     rw (c1 .fields .given .1, c3 .bits .ensures)
 
 returns-2 : tie.Need-returns-2
-unfolding header filler
+unfolding headerBytes filler
 returns-2 c =
     let c1 = c .before in
     let c3 = c1 .before .before in

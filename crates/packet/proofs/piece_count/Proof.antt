@@ -9,8 +9,8 @@ use Rattle.format.specs.Formats.{packetLimit}
 use Rattle.format.specs.Refusals.{value}
 use Rattle.format.proofs.Checks.{stop, pass, none-left}
 use Rattle.format.proofs.Limits.{some-bytes, eight-bytes, most-bytes}
-use Rattle.packet.specs.Split.{pieceCount}
-use Rattle.packet.specs.Send.{countOf}
+use Rattle.packet.specs.Split.{countOf}
+use Rattle.packet.specs.Send.{pieceCount}
 use Rattle.packet.proofs.piece_count.Statement.{statement}
 use Rattle.packet.proofs.piece_count.Tie as tie
 
@@ -18,7 +18,7 @@ packet-limit-requires : tie.Need-packet-limit-requires
 packet-limit-requires c κs = search needs
 
 returns : tie.Need-returns
-unfolding countOf
+unfolding pieceCount
 returns c =
     let a = c .before .before .args in
     let h : packetLimit (a .format) < a .size = rw (c .before .packet-limit .ensures) at (c .if1 .taken) in
@@ -35,11 +35,11 @@ count-of-requires c κs =
     (omega (arith, some-bytes (a .format)), omega (arith, eight-bytes (a .format)), omega (arith, most-bytes (a .format)))
 
 returns-2 : tie.Need-returns-2
-unfolding countOf
+unfolding pieceCount
 returns-2 c =
     let a = c .before .before .before .before .args in
     let h : a .size ≤ packetLimit (a .format) = rw (c .before .before .before .packet-limit .ensures) at (c .before .before .if1 .left) in
-    ap value (c .count-of .ensures ∙ ap (λ (z : ℕ). pieceCount z (a .size)) (c .before .piece-size .ensures))
+    ap value (c .count-of .ensures ∙ ap (λ (z : ℕ). countOf z (a .size)) (c .before .piece-size .ensures))
     ∙ pass Size _ _ (le-leb _ _ h) (none-left _)
 
 pub piece-count-spec : {M : Type 1} → statement M

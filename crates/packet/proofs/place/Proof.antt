@@ -9,7 +9,7 @@ use Rattle.format.specs.declared.Format.{Format}
 use Rattle.format.specs.Formats.{headerSize, packetStart, formatOf}
 use Rattle.format.proofs.Limits.{five-bytes, start-near}
 use Rattle.frame.specs.Image.{imageOf}
-use Rattle.packet.specs.Split.{frameOf}
+use Rattle.packet.specs.Split.{frameWith}
 use Rattle.packet.specs.Send.{over}
 use Rattle.packet.proofs.Placing.{no-room, has-room, image-size, image-led, head-six}
 use Rattle.packet.proofs.place.Statement.{statement}
@@ -35,7 +35,7 @@ starts c =
 
 sized : (c : tie.After-packet-start)
     → let a = c .before .before .before .before .args in
-    length (imageOf (frameOf (a .fields) (a .flag) (a .number) (a .bytes .now))) ≡ c .packet-start .result + length (a .bytes .now)
+    length (imageOf (frameWith (a .fields) (a .flag) (a .number) (a .bytes .now))) ≡ c .packet-start .result + length (a .bytes .now)
 sized c = let a = c .before .before .before .before .args in image-size (a .flag) (a .number) (a .bytes .now) (a .fields) _ (starts c)
 
 format-requires : tie.Need-format-requires

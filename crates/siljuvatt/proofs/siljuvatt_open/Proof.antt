@@ -2,7 +2,7 @@
 use mathlib.Core.Path.{_≡_, _∙_, ap}
 use Prim.Native.Nat.{ℕ}
 use Rattle.format.specs.declared.Fields.{Fields}
-use Rattle.station_bytes.specs.Calls.{Handed, openIn}
+use Rattle.station_bytes.specs.Calls.{StateAfter, openIn}
 use Rattle.siljuvatt.specs.Answers.{outcomeWord}
 use Rattle.siljuvatt.specs.Arguments.{fieldsFrom}
 use borrow.Author.Needs.{needs}
@@ -30,7 +30,7 @@ returns c = let o = c .before .before .before in
     let g = f .before .before .before .before .before .args in
     let fields = f .fields-of .ensures ∙ ap (λ (n : ℕ). fieldsFrom n (g .fields .now)) (f .before .format-in .ensures) in
     let e = o .«open» .ensures ∙ ap (λ (fields : Fields). openIn (g .state .now) (record { bus = g .bus; fields = fields })) fields in
-    (c .outcome-word .ensures ∙ ap (λ (h : Handed). outcomeWord (h .answer)) e, ap (λ (h : Handed). h .state) e)
+    (c .outcome-word .ensures ∙ ap (λ (h : StateAfter). outcomeWord (h .answer)) e, ap (λ (h : StateAfter). h .state) e)
 
 pub siljuvatt-open-spec : {M : Type 1} → statement M
 siljuvatt-open-spec =

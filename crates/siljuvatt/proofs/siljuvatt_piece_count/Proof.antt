@@ -2,7 +2,7 @@
 use mathlib.Core.Path.{_∙_, ap, sym}
 use borrow.Author.Tests.{lt-leb, le-leb}
 use Rattle.format.specs.declared.Format.{Format}
-use Rattle.packet.specs.Send.{countOf}
+use Rattle.packet.specs.Send.{pieceCount}
 use Rattle.siljuvatt.specs.Answers.{outcomeWord}
 use Rattle.siljuvatt.specs.Calls.{countIn}
 use borrow.Author.Needs.{needs}
@@ -30,7 +30,7 @@ unfolding countIn
 returns-2 c = let g = c .before .before .before .before .args in
     rw (le-leb _ _ (c .before .before .before .if1 .left))
     (c .outcome-word .ensures
-    ∙ ap outcomeWord (c .before .piece-count .ensures ∙ ap (λ (format : Format). countOf format (g .size)) (c .before .before .format-of .ensures)))
+    ∙ ap outcomeWord (c .before .piece-count .ensures ∙ ap (λ (format : Format). pieceCount format (g .size)) (c .before .before .format-of .ensures)))
 
 pub siljuvatt-piece-count-spec : {M : Type 1} → statement M
 siljuvatt-piece-count-spec =

@@ -1,6 +1,6 @@
 -- `siljuvatt_receive` meets its contract: that of the call on the bytes, its answer as a number.
 use mathlib.Core.Path.{_∙_, ap}
-use Rattle.station_bytes.specs.Calls.{Received}
+use Rattle.station_bytes.specs.Calls.{BytesAfter}
 use Rattle.siljuvatt.specs.Answers.{replyWord}
 use borrow.Author.Needs.{needs}
 use Rattle.siljuvatt.proofs.siljuvatt_receive.Statement.{statement}
@@ -20,7 +20,7 @@ same-length-2 c = search needs
 
 returns : tie.Need-returns
 returns c = let e = c .before .before .before .before .before .receive .ensures in
-    (c .reply-word .ensures ∙ ap (λ (h : Received). replyWord (h .answer)) e, (ap (λ (h : Received). h .state) e, ap (λ (h : Received). h .store) e))
+    (c .reply-word .ensures ∙ ap (λ (h : BytesAfter). replyWord (h .answer)) e, (ap (λ (h : BytesAfter). h .state) e, ap (λ (h : BytesAfter). h .store) e))
 
 pub siljuvatt-receive-spec : {M : Type 1} → statement M
 siljuvatt-receive-spec =

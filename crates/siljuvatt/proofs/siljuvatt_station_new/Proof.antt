@@ -2,7 +2,7 @@
 use mathlib.Core.Path.{_∙_, ap, refl}
 use borrow.Author.Tests.{eq-eqb, ne-eqb, lt-leb, le-leb}
 use Rattle.format.specs.declared.Format.{Format}
-use Rattle.station_bytes.specs.Calls.{Handed, renewed}
+use Rattle.station_bytes.specs.Calls.{StateAfter, renewed}
 use Rattle.siljuvatt.specs.Answers.{outcomeWord}
 use Rattle.siljuvatt.specs.Calls.{newIn}
 use borrow.Author.Needs.{needs}
@@ -41,7 +41,7 @@ returns-3 c = let n = c .before .before .before in
     let g = n .before .before .before .before .before .before .args in
     let e = n .new .ensures ∙ ap (λ (format : Format). renewed (g .state .now) format) (n .before .format-of .ensures) in
     rw (eq-eqb _ _ (n .before .before .before .before .if1 .left), le-leb _ _ (n .before .before .before .if2 .left))
-    (c .outcome-word .ensures ∙ ap (λ (h : Handed). outcomeWord (h .answer)) e, ap (λ (h : Handed). h .state) e)
+    (c .outcome-word .ensures ∙ ap (λ (h : StateAfter). outcomeWord (h .answer)) e, ap (λ (h : StateAfter). h .state) e)
 
 pub siljuvatt-station-new-spec : {M : Type 1} → statement M
 siljuvatt-station-new-spec =

@@ -2,7 +2,7 @@
 use mathlib.Core.Path.{_∙_, ap}
 use lib.ListN.{length}
 use Rattle.format.specs.declared.Fields.{Fields}
-use Rattle.packet.specs.Send.{send, answer, after}
+use Rattle.packet.specs.Send.{send, answer, outputAfter}
 use Rattle.siljuvatt.specs.Answers.{outcomeWord}
 use borrow.Author.Needs.{needs}
 use Rattle.siljuvatt.proofs.siljuvatt_write_piece.Statement.{statement}
@@ -24,7 +24,7 @@ returns : tie.Need-returns
 returns c = let w = c .before .before .before in
     let g = w .before .before .before .before .before .before .args in
     let e = ap (λ (fields : Fields). send fields (g .packet .now) (g .k) (length (g .output .now))) (w .before .before .fields-of .ensures) in
-    (c .outcome-word .ensures ∙ ap outcomeWord (w .write-piece .ensures .0 ∙ ap answer e), w .write-piece .ensures .1 ∙ ap (λ r. after r (g .output .now)) e)
+    (c .outcome-word .ensures ∙ ap outcomeWord (w .write-piece .ensures .0 ∙ ap answer e), w .write-piece .ensures .1 ∙ ap (λ r. outputAfter r (g .output .now)) e)
 
 pub siljuvatt-write-piece-spec : {M : Type 1} → statement M
 siljuvatt-write-piece-spec =

@@ -1,5 +1,5 @@
 -- `slot::fits` meets its contract: by the arms.
-use Rattle.format.specs.Tests.{all}
+use Rattle.format.specs.Tests.{allTrue}
 use Rattle.slot.specs.Sound.{fits}
 use borrow.Author.Needs.{needs}
 use Rattle.slot.proofs.fits.Statement.{statement}
@@ -37,19 +37,19 @@ unfolding fits
 returns c = search needs
 
 returns-2 : tie.Need-returns-2
-unfolding fits all
+unfolding fits allTrue
 returns-2 c = simp (c .before .before .before .progress .given .1, c .enum-told2 .given .1)
 
 returns-3 : tie.Need-returns-3
-unfolding fits all
+unfolding fits allTrue
 returns-3 c = simp (c .before .before .before .progress .given .1, c .enum-told3 .given .1)
 
 returns-4 : tie.Need-returns-4
-unfolding fits all
+unfolding fits allTrue
 returns-4 c = simp (c .before .before .before .progress2 .given .1, c .enum-told4 .given .1)
 
 returns-5 : tie.Need-returns-5
-unfolding fits all
+unfolding fits allTrue
 returns-5 c = simp (c .before .before .before .progress2 .given .1, c .enum-told5 .given .1)
 
 pub fits-spec : {M : Type 1} → statement M

@@ -1,6 +1,6 @@
 -- `slot::key_in_range` meets its contract: where the formats agree, bus and ranges are left to test.
 use mathlib.Core.Bool.{and-true, and-false}
-use Rattle.format.specs.Tests.{all, allAfter}
+use Rattle.format.specs.Tests.{allTrue, allAfter}
 use Rattle.slot.specs.Sound.{keyInRange}
 use borrow.Author.Needs.{needs}
 use Rattle.slot.proofs.key_in_range.Statement.{statement}
@@ -31,21 +31,21 @@ in-range-requires-2 : tie.Need-in-range-requires-2
 in-range-requires-2 c κs = search needs
 
 returns : tie.Need-returns
-unfolding keyInRange all allAfter
+unfolding keyInRange allTrue allAfter
 returns c =
     let m = c .before in
     simp (m .before .before .enum-told .given .1, m .enum-told2 .given .1, c .in-range .ensures, and-true)
 
 returns-2 : tie.Need-returns-2
-unfolding keyInRange all allAfter
+unfolding keyInRange allTrue allAfter
 returns-2 c = simp (c .before .before .enum-told .given .1, c .enum-told3 .given .1, and-false)
 
 returns-3 : tie.Need-returns-3
-unfolding keyInRange all allAfter
+unfolding keyInRange allTrue allAfter
 returns-3 c = simp (c .before .before .enum-told4 .given .1, c .enum-told5 .given .1, and-false)
 
 returns-4 : tie.Need-returns-4
-unfolding keyInRange all allAfter
+unfolding keyInRange allTrue allAfter
 returns-4 c =
     let m = c .before in
     simp (m .before .before .enum-told4 .given .1, m .enum-told6 .given .1, c .in-range2 .ensures, and-true)

@@ -1,5 +1,5 @@
 -- `slot::open_with` meets its contract.
-use Rattle.format.specs.Tests.{all, allAfter}
+use Rattle.format.specs.Tests.{allTrue, allAfter}
 use Rattle.slot.specs.Slots.{sameKey}
 use borrow.Author.Needs.{needs}
 use Rattle.slot.proofs.open_with.Statement.{statement}
@@ -18,7 +18,7 @@ returns : tie.Need-returns
 returns c = search needs
 
 returns-2 : tie.Need-returns-2
-unfolding sameKey all allAfter
+unfolding sameKey allTrue allAfter
 returns-2 c = simp (c .before .before .before .before .before .occupancy .given .1, c .same-fields .ensures)
 
 pub open-with-spec : {M : Type 1} → statement M

@@ -1,5 +1,5 @@
 -- `slot::same_fields` meets its contract, by the two kinds of fields.
-use Rattle.format.specs.Tests.{all, allAfter}
+use Rattle.format.specs.Tests.{allTrue, allAfter}
 use Rattle.slot.specs.Slots.{sameFields}
 use borrow.Author.Needs.{needs}
 use Rattle.slot.proofs.same_fields.Statement.{statement}
@@ -24,7 +24,7 @@ enum-known-b-2 : tie.Need-enum-known-b-2
 enum-known-b-2 c = search needs
 
 returns : tie.Need-returns
-unfolding sameFields all allAfter
+unfolding sameFields allTrue allAfter
 returns c = simp (c .before .before .before .before .a .given .1, c .before .b .given .1)
 
 returns-2 : tie.Need-returns-2
@@ -36,7 +36,7 @@ unfolding sameFields
 returns-3 c = simp (c .before .before .before .a2 .given .1, c .enum-told2 .given .1)
 
 returns-4 : tie.Need-returns-4
-unfolding sameFields all allAfter
+unfolding sameFields allTrue allAfter
 returns-4 c = simp (c .before .before .before .before .a2 .given .1, c .before .b2 .given .1)
 
 pub same-fields-spec : {M : Type 1} → statement M

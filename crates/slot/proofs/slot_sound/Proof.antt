@@ -1,6 +1,6 @@
 -- `slot::slot_sound` meets its contract: by the arms.
 use mathlib.Core.Path.{_∙_, sym}
-use Rattle.format.specs.Tests.{all, allAfter}
+use Rattle.format.specs.Tests.{allTrue, allAfter}
 use Rattle.slot.specs.Sound.{slotSound}
 use borrow.Author.Needs.{needs}
 use Rattle.slot.proofs.slot_sound.Statement.{statement}
@@ -23,13 +23,13 @@ unfolding slotSound
 returns c = search needs
 
 returns-2 : tie.Need-returns-2
-unfolding slotSound all allAfter
+unfolding slotSound allTrue allAfter
 returns-2 c =
     let k = c .before .before in
     simp (k .before .before .before .occupancy .given .1, sym (k .key-in-range .ensures) ∙ c .before .if1 .taken, c .fits2 .ensures)
 
 returns-3 : tie.Need-returns-3
-unfolding slotSound all allAfter
+unfolding slotSound allTrue allAfter
 returns-3 c =
     let k = c .before in
     simp (k .before .before .before .occupancy .given .1, sym (k .key-in-range .ensures) ∙ c .if1 .left)

@@ -7,7 +7,7 @@ use Prim.Native.Nat.{ℕ}
 use lib.ListN.{set, replicate}
 use Rattle.format.specs.Refusals.{value}
 use Rattle.copying.proofs.Filling.{whole}
-use Rattle.station_bytes.specs.Calls.{renewed, Handed}
+use Rattle.station_bytes.specs.Calls.{renewed, StateAfter}
 use Rattle.station_bytes.proofs.Places.{new-bytes}
 use borrow.Author.Needs.{needs}
 use Rattle.station_bytes.proofs.new.Statement.{statement}

@@ -1,5 +1,5 @@
 -- `trace::line_in_range` meets its contract, line by line.
-use Rattle.format.specs.Tests.{all, allAfter}
+use Rattle.format.specs.Tests.{allTrue, allAfter}
 use Rattle.trace.specs.Lines.{lineInRange}
 use borrow.Author.Needs.{needs}
 use Rattle.trace.proofs.line_in_range.Statement.{statement}
@@ -28,7 +28,7 @@ unfolding lineInRange
 returns c = rw (c .enum-told .given .1)
 
 returns-2 : tie.Need-returns-2
-unfolding lineInRange all allAfter
+unfolding lineInRange allTrue allAfter
 returns-2 c = rw (c .before .before .line .given .1, c .is-listed .ensures)
 
 returns-3 : tie.Need-returns-3

@@ -1,5 +1,5 @@
 -- `trace::put_line` meets its contract, line by line.
-use Rattle.trace.specs.Lines.{lineText, header}
+use Rattle.trace.specs.Lines.{lineText, headerLine}
 use borrow.Author.Needs.{needs}
 use Rattle.trace.proofs.put_line.Statement.{statement}
 use Rattle.trace.proofs.put_line.Tie as tie
@@ -38,7 +38,7 @@ put-records-requires : tie.Need-put-records-requires
 put-records-requires c κs = search needs
 
 returns : tie.Need-returns
-unfolding lineText header
+unfolding lineText headerLine
 returns c = rw (c .before .before .before .enum-told .given .1) (c .put-word .ensures)
 
 returns-2 : tie.Need-returns-2

@@ -4,7 +4,7 @@ use mathlib.Core.Bool.{true}
 use mathlib.Core.List.{[], _∷_}
 use borrow.Author.Tests.{not-true, not-false}
 use lib.Dec.{leb}
-use Rattle.format.specs.Tests.{all}
+use Rattle.format.specs.Tests.{allTrue}
 use Rattle.master.specs.Masters.{sound}
 use Rattle.master.specs.Exchanges.{underWay, counts, after}
 use Rattle.master.proofs.Moves.{node-in-range, reply-state, reply-field, reply-idle, reply-other, reply-done}
@@ -16,8 +16,8 @@ sound-there : (c : tie.Else1) → sound (c .before .before .before .args .self) 
 sound-there c = sym (c .before .is-sound .ensures) ∙ not-false _ (c .if1 .left)
 
 in-range : (c : tie.Else2)
-    → let g = c .before .before .before .before .args in all (leb (g .bus) 1 ∷ leb (g .node) 63 ∷ leb (g .function) 31 ∷ []) ≡ true
-unfolding all
+    → let g = c .before .before .before .before .args in allTrue (leb (g .bus) 1 ∷ leb (g .node) 63 ∷ leb (g .function) 31 ∷ []) ≡ true
+unfolding allTrue
 in-range c = not-false _ (c .if2 .left)
 
 -- what the test says of the reply
@@ -42,7 +42,7 @@ refuse-requires-2 : tie.Need-refuse-requires-2
 refuse-requires-2 c κs = search needs
 
 returns-2 : tie.Need-returns-2
-unfolding all
+unfolding allTrue
 returns-2 c =
     let g = c .before .before .before .before .before .args in
     ap after (c .refuse2 .ensures) ∙ reply-field (g .self) (g .bus) (g .node) (g .function) (sound-there (c .before .before)) (not-true _ (c .before .if2 .taken))
