@@ -5,7 +5,7 @@ use native.Mathlib.Omega.{arith}
 use mathlib.Core.Bool.{Bool, true, false}
 use mathlib.Core.List.{List, [], _∷_}
 use Rattle.format.specs.declared.Refusal.{Refusal}
-use Rattle.format.specs.Refusals.{Result, value, refused, Check, check, guarded, number}
+use Rattle.format.specs.Refusals.{Result, value, refused, Check, check, guarded, checkedThen, number}
 
 module _ {A : Type 0} (name : Refusal) (rest : List Check) (x : A) {ok : Bool} where
   -- a check that fails refuses
@@ -33,3 +33,15 @@ unfolding guarded
 passed [] x y e = (tt, (cc))
 passed (check name true ∷ rest) x y e = let r = passed rest x y e in ((refl, r .0), r .1)
 passed (check name false ∷ rest) x y e = let z : _≡_ {A = ℕ} 0 1 = cc in absurd (omega arith)
+
+-- the same before a result of its own
+pub stop-then : {A : Type 0} (name : Refusal) (rest : List Check) (r : Result A) {ok : Bool} → ok ≡ false
+    → refused (number name) ≡ checkedThen (check name ok ∷ rest) r
+unfolding checkedThen
+stop-then name rest r e = rw e
+
+pub passed-then : {A : Type 0} (checks : List Check) (r : Result A) (y : A) → checkedThen checks r ≡ value y → Passed checks × (r ≡ value y)
+unfolding checkedThen
+passed-then [] r y e = (tt, e)
+passed-then (check name true ∷ rest) r y e = let p = passed-then rest r y e in ((refl, p .0), p .1)
+passed-then (check name false ∷ rest) r y e = let z : _≡_ {A = ℕ} 0 1 = cc in absurd (omega arith)

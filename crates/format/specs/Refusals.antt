@@ -66,6 +66,11 @@ unfoldable pub guarded : {A : Type 0} → List Check → A → Result A
 guarded [] x = value x
 guarded (check name ok ∷ checks) x = cond ok (guarded checks x) (refused (number name))
 
+-- the same before a result of its own, which may be a refusal too
+unfoldable pub checkedThen : {A : Type 0} → List Check → Result A → Result A
+checkedThen [] r = r
+checkedThen (check name ok ∷ checks) r = cond ok (checkedThen checks r) (refused (number name))
+
 -- what the code's answer says
 abbrev pub meaning : Outcome → Result ℕ
 meaning (Value n) = value n

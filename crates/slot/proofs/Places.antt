@@ -1,14 +1,20 @@
 -- The first place where a test holds: what one more turn of a search finds, and what the place says of the list.
 use Prim.Native.Nat.{ℕ, suc, _+_, _≤_, _<_}
-use mathlib.Core.Path.{_≡_, refl, ap, _∙_}
+use mathlib.Core.Path.{_≡_, refl, sym, ap, _∙_}
 use mathlib.Core.Bool.{Bool, true, false, cond, _||_}
 use mathlib.Core.List.{List, [], _∷_}
 use native.Mathlib.Numerals.{add-one}
 use native.Mathlib.Omega.{arith}
+use lib.Dec.{ltb}
 use lib.ListN.{length, drop, getD, drop-of-length-le}
 use lib.Seq.{drop-cons}
+use borrow.Author.Tests.{ltb-true, ltb-false, lt-ltb, le-ltb}
 use Rattle.slot.specs.Slots.{place}
 use Rattle.slot.specs.Sound.{any}
+
+ltb-suc : (a b : ℕ) (o : Bool) → ltb a b ≡ o → ltb a b ≡ ltb (suc a) (suc b)
+ltb-suc a b true e = let l : suc a < suc b = omega (arith, ltb-true a b e) in e ∙ sym (lt-ltb (suc a) (suc b) l)
+ltb-suc a b false e = let l : suc b ≤ suc a = omega (arith, ltb-false a b e) in e ∙ sym (le-ltb (suc a) (suc b) l)
 
 -- a search that has passed i elements: it ends at i; it goes on; nothing is left
 module _ {A : Type 0} (test : A → Bool) (l : List A) (i : ℕ) where
@@ -64,3 +70,13 @@ module _ {A : Type 0} (test : A → Bool) where
       go : (b : Bool) → (b || any test xs) ≡ false → (any test xs ≡ false → place test xs ≡ length xs) → cond b 0 (suc (place test xs)) ≡ suc (length xs)
       go true q rest = let z : _≡_ {A = ℕ} 0 1 = cc in absurd (omega arith)
       go false q rest = ap suc (rest q)
+
+  -- it holds somewhere exactly if the place is within
+  pub any-place : (l : List A) → any test l ≡ ltb (place test l) (length l)
+  unfolding place any
+  any-place [] = refl
+  any-place (x ∷ xs) = go (test x) (any-place xs)
+    where
+      go : (b : Bool) → any test xs ≡ ltb (place test xs) (length xs) → (b || any test xs) ≡ ltb (cond b 0 (suc (place test xs))) (suc (length xs))
+      go true e = sym (lt-ltb 0 (suc (length xs)) (omega arith))
+      go false e = e ∙ ltb-suc (place test xs) (length xs) (ltb (place test xs) (length xs)) refl

@@ -11,9 +11,9 @@ use lib.Seq.{getD-set-same, getD-set-other}
 use borrow.Author.Tests.{ltb-true, ltb-false, eqb-true, eqb-false, eq-eqb, ne-eqb}
 use Rattle.format.specs.declared.Format.{Format}
 use Rattle.format.specs.declared.Refusal.the-variants.{Field}
-use Rattle.format.specs.Refusals.{value, check, guarded}
+use Rattle.format.specs.Refusals.{value, check, checkedThen}
 use Rattle.format.proofs.Tests.{each, from-each}
-use Rattle.format.proofs.Checks.{passed}
+use Rattle.format.proofs.Checks.{passed-then}
 use Rattle.frame.specs.Judge.{Frame, Judged, judge}
 use Rattle.stream.specs.Answers.{filtered}
 use Rattle.stream.specs.Step.{step}
@@ -26,8 +26,7 @@ use Rattle.slot.specs.Sound.{keyInRange, fits, slotSound, slotsSound, keysDiffe
 use Rattle.slot.proofs.Keys.{same-key}
 use Rattle.station.specs.declared.Station.{Station}
 use Rattle.station.specs.Stations.{soundStation, area, withArea, fullSize}
-use Rattle.station.specs.Run.{examined}
-use Rattle.station.specs.Receive.{After, unchanged, progressIn, progressOf, stepAt, deliver, judgedAs, receive}
+use Rattle.station.specs.Receive.{After, unchanged, progressIn, progressOf, stepAt, deliver, judgedAs, examined, receive}
 use Rattle.station.proofs.Areas.{area-length, put-length, put-same, put-other}
 use Rattle.station.proofs.Steps.{Carrying, judged-carries, Keeps, keeps}
 use Rattle.station.proofs.Slots.{found, sound-at, sound-set, differ-set}
@@ -142,14 +141,14 @@ module _ (station : Station) (store : List ℕ) (g : Good station store) (key : 
 -- a call that is not refused at the door
 pub let-in : (station : Station) (store : List ℕ) → Good station store → (bus : ℕ) (image : List ℕ)
     → receive station store bus image ≡ judgedAs station store bus (examined (station .format) bus image)
-unfolding receive guarded
+unfolding receive checkedThen
 let-in station store g bus image =
     let s : soundStation station ≡ true = stays-sound station store g in
     let w : fullSize store ≡ true = eq-eqb _ _ (g .whole) in
     rw (s, w)
 
 -- an examined image that is a frame was judged
-pub frame-carries : (format : Format) (bus : ℕ) (image : List ℕ) (judged : Judged) → examined format bus image ≡ value (value judged)
+pub frame-carries : (format : Format) (bus : ℕ) (image : List ℕ) (judged : Judged) → examined format bus image ≡ value judged
     → Carrying format (judged .frame)
 frame-carries format bus image judged e =
-    let p = passed (check Field (leb bus 1) ∷ []) (judge format image) (value judged) e in judged-carries format image judged (p .1)
+    judged-carries format image judged (passed-then (check Field (leb bus 1) ∷ []) (judge format image) judged e .1)

@@ -2,13 +2,13 @@
 use Prim.Native.Nat.{ℕ, _-_, _*_, _≤_, _<_}
 use mathlib.Core.Path.{_≡_, refl, sym, ap, _∙_, subst}
 use mathlib.Core.Logic.{_≢_}
-use mathlib.Core.Bool.{true, false, not}
+use mathlib.Core.Bool.{Bool, true, false, not}
 use mathlib.Core.List.{List, [], _∷_}
 use native.Mathlib.Omega.{arith}
 use lib.Dec.{ltb}
 use lib.ListN.{length, set, take, drop}
 use lib.Seq.{length-take-le, take-take}
-use borrow.Author.Tests.{leb-true, eqb-true, ltb-true, eq-eqb, ne-eqb, lt-ltb, le-ltb}
+use borrow.Author.Tests.{leb-true, eqb-true, ltb-true, ltb-false, eq-eqb, ne-eqb, lt-ltb, le-ltb}
 use Rattle.format.specs.declared.Format.{Format}
 use Rattle.format.specs.declared.Refusal.{Refusal}
 use Rattle.format.specs.declared.Refusal.the-variants as refusal
@@ -19,17 +19,19 @@ use Rattle.format.proofs.Checks.{stop, pass, none-left, passed}
 use Rattle.format.proofs.Limits.{most-bytes}
 use Rattle.stream.specs.declared.Progress.{Progress}
 use Rattle.stream.specs.declared.Progress.the-variants.{Idle, Collecting, Done}
+use Rattle.stream.specs.Step.{held}
 use Rattle.slot.specs.declared.Key.{Key}
 use Rattle.slot.specs.declared.Slot.{Slot}
 use Rattle.slot.specs.declared.Occupancy.{Occupancy}
 use Rattle.slot.specs.declared.Occupancy.the-variants.{Closed, Open}
 use Rattle.slot.specs.Slots.{closedSlot, openSlot, slotAt, isClosed, hasKey, place}
-use Rattle.slot.specs.Sound.{keyInRange, fits, slotSound, sound, sought}
+use Rattle.slot.specs.Sound.{keyInRange, fits, slotSound, any, sound, sought}
+use Rattle.slot.proofs.Places.{any-place}
 use Rattle.station.specs.declared.Station.{Station}
 use Rattle.station.specs.Stations.{soundStation, withSlots, area, fullSize}
 use Rattle.station.specs.Receive.{progressIn, progressOf}
 use Rattle.station.specs.Open.{StationAfter, changedAt, opening, isOpen, closing}
-use Rattle.station.specs.Read.{isDone, held, reading, lengthOf, partOf}
+use Rattle.station.specs.Read.{isDone, reading, lengthOf, partOf}
 use Rattle.station.proofs.Areas.{area-length}
 use Rattle.station.proofs.Turning.{sought-refused}
 use Rattle.station.proofs.Slots.{sound-at}
@@ -37,11 +39,23 @@ use Rattle.station.proofs.Slots.{sound-at}
 abbrev refuses : Station → ℕ → StationAfter
 refuses station n = record { answer = refused n; station = station }
 
-not-lt : (n : ℕ) → 16 ≤ n → not (ltb n 16) ≡ true
-not-lt n h = rw (le-ltb n 16 h)
+-- whether a test holds of some slot, by its place
+module _ (format : Format) (slots : List Slot) (test : Slot → Bool) (s : sound format slots ≡ true) where
+  sixteenth : any test slots ≡ ltb (place test slots) 16
+  unfolding sound
+  sixteenth = any-place test slots ∙ ap (ltb (place test slots)) (eqb-true _ _ (each _ s .0))
 
-is-lt : (n : ℕ) → n < 16 → not (ltb n 16) ≡ false
-is-lt n h = rw (lt-ltb n 16 h)
+  pub holds : place test slots < 16 → any test slots ≡ true
+  holds h = sixteenth ∙ lt-ltb _ 16 h
+
+  pub holds-nowhere : 16 ≤ place test slots → any test slots ≡ false
+  holds-nowhere h = sixteenth ∙ le-ltb _ 16 h
+
+  pub within-sixteen : any test slots ≡ true → place test slots < 16
+  within-sixteen e = ltb-true _ _ (sym sixteenth ∙ e)
+
+  pub past-sixteen : any test slots ≡ false → 16 ≤ place test slots
+  past-sixteen e = ltb-false _ _ (sym sixteenth ∙ e)
 
 -- ---- opening
 
@@ -60,14 +74,17 @@ module _ (station : Station) (key : Key) where
     module _ (r : keyInRange (station .format) key ≡ true) where
       pub open-taken : place (hasKey key) (station .slots) < 16 → refuses station (number refusal.Taken) ≡ opening station key
       unfolding opening
-      open-taken t = ap (changedAt station (openSlot key Idle)) (pass refusal.State _ _ s (pass refusal.Field _ _ r (stop refusal.Taken _ _ (is-lt _ t))))
+      open-taken t = ap (changedAt station (openSlot key Idle)) (pass refusal.State _ _ s (pass refusal.Field _ _ r (stop refusal.Taken _ _ (ap not (holds (station .format) (station .slots) (hasKey key) s t)))))
 
       module _ (f : 16 ≤ place (hasKey key) (station .slots)) where
+        free : not (any (hasKey key) (station .slots)) ≡ true
+        free = ap not (holds-nowhere (station .format) (station .slots) (hasKey key) s f)
+
         pub open-full : 16 ≤ place isClosed (station .slots) → refuses station (number refusal.Full) ≡ opening station key
         unfolding opening
         open-full n =
             ap (changedAt station (openSlot key Idle))
-            (pass refusal.State _ _ s (pass refusal.Field _ _ r (pass refusal.Taken _ _ (not-lt _ f) (stop refusal.Full _ _ (le-ltb _ 16 n)))))
+            (pass refusal.State _ _ s (pass refusal.Field _ _ r (pass refusal.Taken _ _ free (stop refusal.Full _ _ (holds-nowhere (station .format) (station .slots) isClosed s n)))))
 
         pub open-lowest : (i : ℕ) → i ≡ place isClosed (station .slots) → i < 16
             → _≡_ {A = StationAfter} (record { answer = value i; station = withSlots station (set (station .slots) i (openSlot key Idle)) }) (opening station key)
@@ -76,7 +93,7 @@ module _ (station : Station) (key : Key) where
             let l : place isClosed (station .slots) < 16 = omega (arith, e, h) in
             ap (λ (n : ℕ). changedAt station (openSlot key Idle) (value n)) e
             ∙ ap (changedAt station (openSlot key Idle))
-            (pass refusal.State _ _ s (pass refusal.Field _ _ r (pass refusal.Taken _ _ (not-lt _ f) (pass refusal.Full _ _ (lt-ltb _ 16 l) (none-left _)))))
+            (pass refusal.State _ _ s (pass refusal.Field _ _ r (pass refusal.Taken _ _ free (pass refusal.Full _ _ (holds (station .format) (station .slots) isClosed s l) (none-left _)))))
 
 -- ---- closing
 

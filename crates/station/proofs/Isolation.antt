@@ -5,12 +5,14 @@ use mathlib.Core.Bool.{Bool, true, false}
 use mathlib.Core.List.{List, [], _∷_}
 use native.Mathlib.Omega.{arith}
 use lib.Seq.{ext-getD}
+use borrow.Author.Tests.{eq-eqb}
 use Rattle.format.specs.declared.Format.{Format}
 use Rattle.format.specs.Refusals.{Result, value, refused}
 use Rattle.frame.specs.Judge.{Frame, Judged}
 use Rattle.stream.specs.declared.Progress.{Progress}
 use Rattle.stream.specs.Answers.{Reply}
 use Rattle.stream.specs.Step.{step}
+use Rattle.stream.specs.OneStream.{Alone, oneStream}
 use Rattle.slot.specs.declared.Key.{Key}
 use Rattle.slot.specs.declared.Stream.{Stream}
 use Rattle.slot.specs.declared.Slot.{Slot}
@@ -19,14 +21,14 @@ use Rattle.slot.specs.declared.Occupancy.the-variants.{Closed, Open}
 use Rattle.slot.specs.Slots.{closedSlot, openSlot, slotAt, sameKey, hasKey}
 use Rattle.slot.proofs.Keys.{same-key}
 use Rattle.station.specs.declared.Station.{Station}
-use Rattle.station.specs.Stations.{area}
-use Rattle.station.specs.Receive.{After, keyOf, progressOf, deliver, judgedAs, receive}
+use Rattle.station.specs.Stations.{soundStation, area, fullSize}
+use Rattle.station.specs.Receive.{After, keyOf, progressOf, deliver, judgedAs, examined, receive}
 use Rattle.station.specs.Read.{reading}
-use Rattle.station.specs.Run.{examined, Call, Ran, runOn, run, addIfOf, framesOf, answersOf, Alone, oneStream}
-use Rattle.station.specs.Demands.{IsStream, shown, alone, Isolated, SameFrames, Agree, Demand3On, Demand3}
+use Rattle.station.specs.Run.{Call, Ran, runOn, run, addIfOf, framesOf, answersOf}
+use Rattle.station.specs.Demands.{IsStream, shown, alone, Isolated, SameFrames, Agree, Demand3From, Demand3On, Demand3}
 use Rattle.station.proofs.Areas.{ext-areas}
 use Rattle.station.proofs.Steps.{Carrying}
-use Rattle.station.proofs.Calls.{Good, good, Touch, delivered, let-in, frame-carries}
+use Rattle.station.proofs.Calls.{Good, good, stays-sound, Touch, delivered, let-in, frame-carries}
 
 -- a run has ended: what every slot has in common
 pub record Ended (format : Format) (ran : Ran) : Type 0 where
@@ -34,12 +36,11 @@ pub record Ended (format : Format) (ran : Ran) : Type 0 where
   pub same : ran .station .format ≡ format
 
 -- the station and store after a call whose image was examined as j
-pub through : (station : Station) (store : List ℕ) → Good station store → (bus : ℕ) (j : Result (Result Judged))
-    → ((judged : Judged) → j ≡ value (value judged) → Carrying (station .format) (judged .frame))
+pub through : (station : Station) (store : List ℕ) → Good station store → (bus : ℕ) (j : Result Judged)
+    → ((judged : Judged) → j ≡ value judged → Carrying (station .format) (judged .frame))
     → (Good (judgedAs station store bus j .station) (judgedAs station store bus j .store)) × (judgedAs station store bus j .station .format ≡ station .format)
 through station store g bus (refused n) c = (g, refl)
-through station store g bus (value (refused n)) c = (g, refl)
-through station store g bus (value (value judged)) c =
+through station store g bus (value judged) c =
     let f = delivered station store g (keyOf bus (judged .frame)) (judged .frame) (c judged refl) 0 (omega arith) in (f .stays, f .format)
 
 pub after-call : (station : Station) (store : List ℕ) → Good station store → (bus : ℕ) (image : List ℕ)
@@ -59,12 +60,11 @@ ended (call ∷ calls) station store g =
 -- ---- a closed slot
 
 closed-call : (station : Station) (store : List ℕ) → Good station store → (i : ℕ) → i < 16 → slotAt (station .slots) i ≡ closedSlot
-    → (bus : ℕ) (j : Result (Result Judged)) → ((judged : Judged) → j ≡ value (value judged) → Carrying (station .format) (judged .frame))
+    → (bus : ℕ) (j : Result Judged) → ((judged : Judged) → j ≡ value judged → Carrying (station .format) (judged .frame))
     → (slotAt (judgedAs station store bus j .station .slots) i ≡ closedSlot) × (area (judgedAs station store bus j .store) i ≡ area store i)
 unfolding Touch
 closed-call station store g i h e bus (refused n) c = (e, refl)
-closed-call station store g i h e bus (value (refused n)) c = (e, refl)
-closed-call station store g i h e bus (value (value judged)) c =
+closed-call station store g i h e bus (value judged) c =
     let key = keyOf bus (judged .frame) in
     let f = delivered station store g key (judged .frame) (c judged refl) i h in
     let t = subst (λ (s : Slot). Touch (station .format) s (area store i) i key (judged .frame) (hasKey key s) (deliver station store key (judged .frame))) e (f .touch) in t
@@ -98,7 +98,7 @@ module _ (format : Format) (i : ℕ) (h : i < 16) (key : Key) (calls : List Call
       Ends i key (oneStream format progress a (framesOf format key calls)) (answersOf format key calls (rest .answers)) (rest .station) (rest .store)
 
   -- the whole of it, from what the first call made
-  Whole : Progress → List ℕ → (bus : ℕ) → Result (Result Judged) → After → Type 0
+  Whole : Progress → List ℕ → (bus : ℕ) → Result Judged → After → Type 0
   Whole progress a bus j r =
       let rest = run (r .station) (r .store) calls in
       Ends i key (oneStream format progress a (addIfOf key bus j (λ (frame : Frame). frame) (framesOf format key calls)))
@@ -111,7 +111,7 @@ module _ (format : Format) (i : ℕ) (h : i < 16) (key : Key) (calls : List Call
 
   module _ (progress : Progress) (a : List ℕ) (bus : ℕ) (judged : Judged) (r : After) (f : r .station .format ≡ format) (g : Good (r .station) (r .store)) (ih : Later) where
     at-frame : (b : Bool) → sameKey key (keyOf bus (judged .frame)) ≡ b
-        → Touch format (openSlot key progress) a i (keyOf bus (judged .frame)) (judged .frame) b r → Whole progress a bus (value (value judged)) r
+        → Touch format (openSlot key progress) a i (keyOf bus (judged .frame)) (judged .frame) b r → Whole progress a bus (value judged) r
     unfolding Touch Whole Rest Later addIfOf oneStream
     at-frame true e t =
         let next = step format progress a (judged .frame) in
@@ -125,13 +125,12 @@ module _ (format : Format) (i : ℕ) (h : i < 16) (key : Key) (calls : List Call
         rw e (subst (λ (x : List ℕ). Rest progress x (r .station) (r .store)) (t .1) there)
 
   from-call : (station : Station) (store : List ℕ) (progress : Progress) → station .format ≡ format → Good station store
-      → slotAt (station .slots) i ≡ openSlot key progress → (bus : ℕ) (j : Result (Result Judged))
-      → ((judged : Judged) → j ≡ value (value judged) → Carrying (station .format) (judged .frame)) → Later
+      → slotAt (station .slots) i ≡ openSlot key progress → (bus : ℕ) (j : Result Judged)
+      → ((judged : Judged) → j ≡ value judged → Carrying (station .format) (judged .frame)) → Later
       → Whole progress (area store i) bus j (judgedAs station store bus j)
   unfolding Whole Rest Later addIfOf
   from-call station store progress e g s bus (refused n) c ih = ih station store progress e g s
-  from-call station store progress e g s bus (value (refused n)) c ih = ih station store progress e g s
-  from-call station store progress e g s bus (value (value judged)) c ih =
+  from-call station store progress e g s bus (value judged) c ih =
       let k = keyOf bus (judged .frame) in
       let r = deliver station store k (judged .frame) in
       let w = delivered station store g k (judged .frame) (c judged refl) i h in
@@ -169,6 +168,8 @@ module _ (station : Station) (store : List ℕ) (g : Good station store) where
         slots = λ i stream s. ends calls i stream s .slot;
         closed = λ i s. closed-run i (s .0) calls station store g (s .1);
         format = ended calls station store g .same;
+        sound = stays-sound _ _ (ended calls station store g .well);
+        whole = eq-eqb _ _ (ended calls station store g .well .whole);
       }
 
   module _ (calls others : List Call) (same : SameFrames station calls others) where
@@ -210,12 +211,24 @@ module _ (station : Station) (store : List ℕ) (g : Good station store) where
         (λ i h. same-slot i h (slotAt (station .slots) i .occupancy) refl .1) in
         record {
           answers = λ i stream s. ends calls i stream s .said ∙ ap (λ (y : Alone). y .answers) (same-alone i stream s) ∙ sym (ends others i stream s .said);
-          stations = stations;
+          slots = slots;
+          format = format;
           packets = λ i k. reading (stations k) (stores k) i;
           stores = stores;
         }
 
+-- of whatever ends as the run does
+pub demand3-of : (station : Station) (store : List ℕ) → soundStation station ≡ true → fullSize store ≡ true
+    → (Ends : List Call → Ran → Type 0) → ((calls : List Call) (ran : Ran) → Ends calls ran → run station store calls ≡ ran)
+    → Demand3From station store Ends
+demand3-of station store s w Ends as-run =
+    let g = good station store s w in
+    record {
+      isolated = λ calls ran e. subst (Isolated station store calls) (as-run calls ran e) (isolated station store g calls);
+      alike = λ calls others ran other e f same.
+          subst₂ (Agree station calls others) (as-run calls ran e) (as-run others other f) (agree station store g calls others same);
+    }
+
 pub demand3 : Demand3
 unfolding Demand3On
-demand3 station store s w =
-    let g = good station store s w in (isolated station store g, agree station store g)
+demand3 station store s w = demand3-of station store s w (λ calls ran. run station store calls ≡ ran) (λ calls ran e. e)

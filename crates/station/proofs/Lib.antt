@@ -8,3 +8,5 @@ pub mod RoundTrip
 pub mod Soundness
 pub mod Turning
 pub mod Handing
+pub mod Refusals
+pub mod OnCalls

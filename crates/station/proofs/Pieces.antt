@@ -14,7 +14,7 @@ use Rattle.format.specs.declared.Format.{Format}
 use Rattle.format.specs.declared.Fields.{Fields}
 use Rattle.format.specs.declared.Flag.the-variants.{Middle, Start, End, Single}
 use Rattle.format.specs.Formats.{pieceSize, numberRange, formatOf}
-use Rattle.format.specs.Refusals.{Result, value}
+use Rattle.format.specs.Refusals.{Result, value, guarded}
 use Rattle.format.proofs.Limits.{some-bytes, eight-bytes}
 use Rattle.frame.specs.Judge.{Frame}
 use Rattle.packet.specs.Split.{countOf, pieceFlag, pieceBytes, piece, piecesFrom, pieces}
@@ -23,8 +23,8 @@ use Rattle.packet.proofs.Pieces.{flag-several, count-pieces}
 use Rattle.stream.specs.declared.Progress.{Progress}
 use Rattle.stream.specs.declared.Progress.the-variants.{Collecting, Done}
 use Rattle.stream.specs.Answers.{Reply, packet, kept}
-use Rattle.stream.specs.Step.{Next, collecting, awaited, appended, followed, stepped, step}
-use Rattle.station.specs.Run.{Alone, oneStream}
+use Rattle.stream.specs.Step.{Next, collecting, awaited, follows, followed, stepped, step}
+use Rattle.stream.specs.OneStream.{Alone, oneStream}
 use Rattle.station.specs.Demands.{answersTo}
 
 -- ---- writing after what was written
@@ -45,12 +45,12 @@ then-written a x y n e =
 module _ (format : Format) (h : ℕ) (a : List ℕ) (f : Frame) (n : f .number ≡ awaited (pieceSize format) (numberRange format) h) (room : h + length (f .bytes) ≤ 2048) where
   step-middle : f .flag ≡ Middle
       → step format (Collecting h) a f ≡ record { answer = value (kept false); progress = Collecting (h + length (f .bytes)); area = written a h (f .bytes) }
-  unfolding step stepped followed appended
+  unfolding step stepped followed follows guarded
   step-middle e = rw (e, eq-eqb _ _ n, le-leb _ _ room)
 
   step-end : f .flag ≡ End
       → step format (Collecting h) a f ≡ record { answer = value (packet (h + length (f .bytes)) false); progress = Done (h + length (f .bytes)); area = written a h (f .bytes) }
-  unfolding step stepped followed appended
+  unfolding step stepped followed follows guarded
   step-end e = rw (e, eq-eqb _ _ n, le-leb _ _ room)
 
 module _ (format : Format) (p : Progress) (a : List ℕ) (f : Frame) where
@@ -117,11 +117,11 @@ module _ (fields : Fields) (bytes a : List ℕ) (long : 8 < length bytes) (small
   begins : (k : ℕ) → suc k ≤ count → z * k ≤ length bytes
   begins k h = omega (arith, m .within k h)
 
-  follows : (r k : ℕ) → 0 < k → k + suc r ≡ count
+  goes-on : (r k : ℕ) → 0 < k → k + suc r ≡ count
       → oneStream fm (Collecting (z * k)) (written a 0 (parts k)) (piecesFrom fields bytes k (suc r))
       ≡ record { answers = following (length bytes) r; progress = Done (length bytes); area = written a 0 bytes }
   unfolding oneStream piecesFrom
-  follows zero k pos e =
+  goes-on zero k pos e =
       let last : suc k ≡ count = omega arith in
       let is-last : k + 1 ≡ count = omega arith in
       let inside = begins k (omega arith) in
@@ -130,7 +130,7 @@ module _ (fields : Fields) (bytes a : List ℕ) (long : 8 < length bytes) (small
       ap (λ (s : Next). record { answers = s .answer ∷ []; progress = s .progress; area = s .area })
       (step-end fm (z * k) (written a 0 (parts k)) (piece fields bytes k) (as-awaited k inside) (omega arith) (flag-of k pos true (eq-eqb _ _ is-last))
       ∙ (λ i. record { answer = value (packet (total i) false); progress = Done (total i); area = (onto k inside ∙ ap (written a 0) all) i }))
-  follows (suc r) k pos e =
+  goes-on (suc r) k pos e =
       let more : k + 1 ≡ count → ⊥ = λ q. omega arith in
       let inside = begins k (omega arith) in
       let next = begins (suc k) (omega arith) in
@@ -140,7 +140,7 @@ module _ (fields : Fields) (bytes a : List ℕ) (long : 8 < length bytes) (small
       record { answers = s .answer ∷ rest .answers; progress = rest .progress; area = rest .area })
       (step-middle fm (z * k) (written a 0 (parts k)) (piece fields bytes k) (as-awaited k inside) (omega arith) (flag-of k pos false (ne-eqb _ _ more))
       ∙ (λ i. record { answer = value (kept false); progress = Collecting (total i); area = onto k inside i }))
-      ∙ ap (λ (x : Alone). record { answers = value (kept false) ∷ x .answers; progress = x .progress; area = x .area }) (follows r (suc k) (omega arith) (omega arith))
+      ∙ ap (λ (x : Alone). record { answers = value (kept false) ∷ x .answers; progress = x .progress; area = x .area }) (goes-on r (suc k) (omega arith) (omega arith))
 
   -- the first piece
   first-bytes : piece fields bytes 0 .bytes ≡ parts 1
@@ -164,7 +164,7 @@ module _ (fields : Fields) (bytes a : List ℕ) (long : 8 < length bytes) (small
       record { answers = s .answer ∷ rest .answers; progress = rest .progress; area = rest .area })
       (step-start fm p a (piece fields bytes 0) (parts 1) first-flag first-bytes
       ∙ (λ i. record { answer = value (kept (collecting p)); progress = Collecting (one i); area = written a 0 (parts 1) }))
-      ∙ ap (λ (x : Alone). record { answers = value (kept (collecting p)) ∷ x .answers; progress = x .progress; area = x .area }) (follows d 1 (omega arith) (omega arith))
+      ∙ ap (λ (x : Alone). record { answers = value (kept (collecting p)) ∷ x .answers; progress = x .progress; area = x .area }) (goes-on d 1 (omega arith) (omega arith))
 
   several-answers : (broke : Bool) → answersTo (length (pieces fields bytes)) (length bytes) broke ≡ value (kept broke) ∷ following (length bytes) (count - 2)
   unfolding answersTo pieces

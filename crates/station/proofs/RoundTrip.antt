@@ -13,7 +13,7 @@ use Rattle.format.specs.declared.Format.{Format}
 use Rattle.format.specs.declared.Format.the-variants.{Extended, Standard}
 use Rattle.format.specs.declared.Refusal.the-variants as refusal
 use Rattle.format.specs.Formats.{packetLimit, pieceSize, formatOf}
-use Rattle.format.specs.Refusals.{Result, value, refused, guarded}
+use Rattle.format.specs.Refusals.{Result, value, refused, checkedThen}
 use Rattle.format.proofs.Tests.{each, from-each}
 use Rattle.format.proofs.Checks.{pass, none-left}
 use Rattle.format.proofs.Limits.{most-bytes}
@@ -24,6 +24,7 @@ use Rattle.packet.specs.Claims.{IsSplit, Splitting}
 use Rattle.packet.proofs.Pieces.{splitting, count-pieces}
 use Rattle.stream.specs.declared.Progress.the-variants.{Done}
 use Rattle.stream.specs.Step.{collecting}
+use Rattle.stream.specs.OneStream.{Alone, oneStream}
 use Rattle.slot.specs.declared.Key.{Key}
 use Rattle.slot.specs.declared.Stream.{Stream}
 use Rattle.slot.specs.Slots.{openSlot, slotAt, sameKey}
@@ -31,24 +32,23 @@ use Rattle.slot.specs.Sound.{sameFormat, keyInRange, slotSound}
 use Rattle.slot.proofs.Keys.{same-key-refl}
 use Rattle.station.specs.declared.Station.{Station}
 use Rattle.station.specs.Stations.{soundStation, area, fullSize}
-use Rattle.station.specs.Receive.{keyOf}
+use Rattle.station.specs.Receive.{keyOf, examined}
 use Rattle.station.specs.Open.{isOpen}
 use Rattle.station.specs.Read.{reading}
-use Rattle.station.specs.Run.{examined, Call, run, addIfOf, framesOf, Alone, oneStream}
-use Rattle.station.specs.Demands.{IsStream, shown, alone, Demand3On, fed, woven, answersTo, RoundTripOn, RoundTrip}
+use Rattle.station.specs.Run.{Call, Ran, run, addIfOf, framesOf}
+use Rattle.station.specs.Demands.{IsStream, shown, alone, Isolated, fed, woven, answersTo, Arrives, RoundTripFrom, RoundTripOn, RoundTrip}
 use Rattle.station.proofs.Slots.{sound-at}
 use Rattle.station.proofs.Calls.{Good, good, stays-sound}
-use Rattle.station.proofs.Isolation.{demand3, ended}
+use Rattle.station.proofs.Isolation.{isolated, ended}
 use Rattle.station.proofs.Pieces.{fed-alone}
 
 -- ---- other calls between add no frame
 
-adds-none : (key : Key) (bus : ℕ) (j : Result (Result Judged)) (rest : List Frame) → addIfOf key bus j (λ (frame : Frame). frame) rest ≡ []
+adds-none : (key : Key) (bus : ℕ) (j : Result Judged) (rest : List Frame) → addIfOf key bus j (λ (frame : Frame). frame) rest ≡ []
     → ((frames : List Frame) → addIfOf key bus j (λ (frame : Frame). frame) frames ≡ frames) × (rest ≡ [])
 unfolding addIfOf
 adds-none key bus (refused n) rest e = ((λ frames. refl), e)
-adds-none key bus (value (refused n)) rest e = ((λ frames. refl), e)
-adds-none key bus (value (value judged)) rest e = go (sameKey key (keyOf bus (judged .frame))) e
+adds-none key bus (value judged) rest e = go (sameKey key (keyOf bus (judged .frame))) e
   where
     go : (b : Bool) → cond b (judged .frame ∷ rest) rest ≡ [] → ((frames : List Frame) → cond b (judged .frame ∷ frames) frames ≡ frames) × (rest ≡ [])
     go true e = let z : _≡_ {A = ℕ} 0 1 = cc in absurd (omega arith)
@@ -82,7 +82,7 @@ module _ (key : Key) (bytes : List ℕ) (bus : leb (key .bus) 1 ≡ true) (split
   heard : (k : ℕ) → k < length (pieces (key .fields) bytes) → (rest : List Frame)
       → addIfOf key (key .bus) (examined fm (key .bus) (imageOf (piece (key .fields) bytes k))) (λ (frame : Frame). frame) rest
       ≡ piece (key .fields) bytes k ∷ rest
-  unfolding addIfOf piece guarded
+  unfolding addIfOf piece checkedThen
   heard k h rest = rw (bus, split .judged k h, same-key-refl key)
 
   all-heard : (r k : ℕ) → k + r ≤ length (pieces (key .fields) bytes)
@@ -124,11 +124,10 @@ in-range station store g i stream s =
     let here = sound-at (station .format) (station .slots) (g .fit) i (omega (arith, g .sixteen, s .0)) in
     each _ (rw (s .1) at here) .0
 
-pub round-trip : RoundTrip
-unfolding RoundTripOn Demand3On Splitting keyInRange shown alone
-round-trip station store s w i stream h bytes small others none choices =
+arrives : (station : Station) (store : List ℕ) → Good station store → RoundTripFrom station store (λ calls ran. run station store calls ≡ ran)
+unfolding RoundTripFrom Splitting keyInRange shown alone
+arrives station store g i stream h bytes small others none choices ran ends =
     let key = stream .key in
-    let g = good station store s w in
     let range = each _ (in-range station store g i stream h) in
     let fm : station .format ≡ formatOf (key .fields) = same-format _ _ (range .1 .0) in
     let limit : length bytes ≤ packetLimit (formatOf (key .fields)) = subst (λ (f : Format). length bytes ≤ packetLimit f) fm small in
@@ -138,7 +137,7 @@ round-trip station store s w i stream h bytes small others none choices =
     let frames : framesOf (station .format) key calls ≡ pieces (key .fields) bytes =
     frames-woven (station .format) key choices own others none
     ∙ ap (λ (f : Format). framesOf f key own) fm ∙ all-pieces key bytes (range .0) split in
-    let is = demand3 station store s w .0 calls in
+    let is = isolated station store g calls in
     let x : alone (station .format) i stream store calls
     ≡ record {
       answers = answersTo (length (pieces (key .fields) bytes)) (length bytes) (collecting (stream .progress));
@@ -149,9 +148,23 @@ round-trip station store s w i stream h bytes small others none choices =
     ∙ ap (λ (f : Format). oneStream f (stream .progress) (area store i) (pieces (key .fields) bytes)) fm
     ∙ fed-alone (key .fields) bytes (area store i) (stream .progress) (omega (arith, most-bytes (formatOf (key .fields)))) in
     let e = is .streams i stream h ∙ x in
-    let ran = run station store calls in (
-      reads (ran .station) (ran .store) (ended calls station store g .well) i (h .0) key (area store i) bytes
+    subst (Arrives station i stream bytes calls) ends
+    (record {
+      reads =
+          reads (run station store calls .station) (run station store calls .store) (ended calls station store g .well) i (h .0) key (area store i) bytes
           (is .slots i stream h ∙ ap (λ (y : Alone). openSlot key (y .progress)) x)
-          (ap (λ (y : Alone). y .area) e),
-      ap (λ (y : Alone). y .answers) e,
-    )
+          (ap (λ (y : Alone). y .area) e);
+      answers = ap (λ (y : Alone). y .answers) e;
+    })
+
+-- of whatever ends as the run does
+pub round-trip-of : (station : Station) (store : List ℕ) → soundStation station ≡ true → fullSize store ≡ true
+    → (Ends : List Call → Ran → Type 0) → ((calls : List Call) (ran : Ran) → Ends calls ran → run station store calls ≡ ran)
+    → RoundTripFrom station store Ends
+unfolding RoundTripFrom
+round-trip-of station store s w Ends as-run i stream h bytes small others none choices ran ends =
+    arrives station store (good station store s w) i stream h bytes small others none choices ran (as-run _ ran ends)
+
+pub round-trip : RoundTrip
+unfolding RoundTripOn
+round-trip station store s w = round-trip-of station store s w (λ calls ran. run station store calls ≡ ran) (λ calls ran e. e)

@@ -12,7 +12,7 @@ use borrow.Author.Tests.{lt-ltb, ltb-true, ltb-false, eqb-true, eq-eqb, ne-eqb, 
 use Rattle.format.specs.declared.Format.{Format}
 use Rattle.format.specs.declared.Format.the-variants.{Extended, Standard}
 use Rattle.format.specs.declared.Refusal.the-variants as refusal
-use Rattle.format.specs.Refusals.{Result, value, refused, Check, check, guarded, number}
+use Rattle.format.specs.Refusals.{Result, value, refused, Check, check, guarded, checkedThen, number}
 use Rattle.format.specs.Tests.{allTrue, allAfter}
 use Rattle.format.proofs.Tests.{each, from-each}
 use Rattle.format.proofs.Checks.{passed, pass, none-left}
@@ -25,18 +25,18 @@ use Rattle.slot.specs.declared.Key.{Key}
 use Rattle.slot.specs.declared.Slot.{Slot}
 use Rattle.slot.specs.declared.Stream.{Stream}
 use Rattle.slot.specs.Slots.{closedSlot, openSlot, slotAt, isClosed, hasKey, place}
-use Rattle.slot.specs.Sound.{keyInRange, fits, slotSound, slotsSound, keysDiffer, sound}
+use Rattle.slot.specs.Sound.{keyInRange, fits, slotSound, slotsSound, any, keysDiffer, sound}
 use Rattle.slot.proofs.Places.{place-holds}
 use Rattle.station.specs.declared.Station.{Station}
 use Rattle.station.specs.Stations.{newStation, soundStation, withSlots, area, fullSize}
-use Rattle.station.specs.Run.{examined}
-use Rattle.station.specs.Receive.{After, unchanged, keyOf, progressOf, stepAt, deliver, judgedAs, receive}
+use Rattle.station.specs.Receive.{After, unchanged, keyOf, progressOf, stepAt, deliver, judgedAs, examined, receive}
 use Rattle.station.specs.Open.{changedAt, opening, isOpen, closing}
 use Rattle.station.specs.Demands.{IsStream, StaysSound, NeverLong, CanBeMet}
 use Rattle.station.proofs.Slots.{clashes, found, sound-set, differ-set}
 use Rattle.station.proofs.Steps.{Carrying, never-long}
 use Rattle.station.proofs.Calls.{Good, good, stays-sound, at-slot, let-in, frame-carries}
 use Rattle.station.proofs.Isolation.{after-call}
+use Rattle.station.proofs.Handing.{within-sixteen, past-sixteen}
 
 -- ---- opening and closing
 
@@ -56,23 +56,26 @@ away : (n j : ℕ) → 16 ≤ n → j < 16 → eqb n j ≡ false
 away n j far l = ne-eqb n j (λ e. omega (arith, e, far, l))
 
 -- a key that is open nowhere
-module _ (station : Station) (key : Key) (s : soundStation station ≡ true) (range : keyInRange (station .format) key ≡ true) (free : not (ltb (place (hasKey key) (station .slots)) 16) ≡ true) where
+module _ (station : Station) (key : Key) (s : soundStation station ≡ true) (range : keyInRange (station .format) key ≡ true) (free : not (any (hasKey key) (station .slots)) ≡ true) where
   opened-sound : (i : ℕ) → soundStation (withSlots station (set (station .slots) i (openSlot key Idle))) ≡ true
   unfolding sound slotSound fits
   opened-sound i =
       let t = each _ s in
       let sixteen : length (station .slots) ≡ 16 = eqb-true _ _ (t .0) in
-      let far : 16 ≤ place (hasKey key) (station .slots) = ltb-false _ _ (not-true _ free) in
+      let far : 16 ≤ place (hasKey key) (station .slots) = past-sixteen (station .format) (station .slots) (hasKey key) s (not-true _ free) in
       set-sound station s i (openSlot key Idle) (from-each _ (range, (refl, tt)))
       (λ j n l. found (station .slots) (t .1 .1 .0) key j l ∙ away (place (hasKey key) (station .slots)) j far (omega (arith, sixteen, l)))
 
-abbrev openChecks : Station → Key → List Check
+abbrev pub openChecks : Station → Key → List Check
 openChecks station key =
     check refusal.State (soundStation station)
     ∷ check refusal.Field (keyInRange (station .format) key)
-    ∷ check refusal.Taken (not (ltb (place (hasKey key) (station .slots)) 16))
-    ∷ check refusal.Full (ltb (place isClosed (station .slots)) 16)
+    ∷ check refusal.Taken (not (any (hasKey key) (station .slots)))
+    ∷ check refusal.Full (any isClosed (station .slots))
     ∷ []
+
+abbrev pub closeChecks : Station → ℕ → List Check
+closeChecks station i = check refusal.State (soundStation station) ∷ check refusal.Closed (isOpen (station .slots) i) ∷ []
 
 opened-as : (station : Station) (key : Key) (r : Result ℕ) → guarded (openChecks station key) (place isClosed (station .slots)) ≡ r
     → (i : ℕ) → r ≡ value i → (soundStation (withSlots station (set (station .slots) i (openSlot key Idle))) ≡ true) × (i < length (station .slots)) × (i < 16)
@@ -80,7 +83,7 @@ unfolding sound
 opened-as station key r e i q =
     let p = passed (openChecks station key) (place isClosed (station .slots)) i (e ∙ q) in
     let s = p .0 .0 in
-    let low : place isClosed (station .slots) < 16 = ltb-true _ _ (p .0 .1 .1 .1 .0) in
+    let low : place isClosed (station .slots) < 16 = within-sixteen (station .format) (station .slots) isClosed s (p .0 .1 .1 .1 .0) in
     let sixteen : length (station .slots) ≡ 16 = eqb-true _ _ (each _ s .0) in
     (opened-sound station key s (p .0 .1 .0) (p .0 .1 .1 .0) i, omega (arith, p .1, sixteen, low), omega (arith, p .1, low))
 
@@ -99,7 +102,7 @@ close-keeps station s (refused n) = s
 -- with a store of another size nothing changes
 refused-store : (station : Station) (store : List ℕ) (bus : ℕ) (image : List ℕ) → soundStation station ≡ true → fullSize store ≡ false
     → receive station store bus image ≡ unchanged station store (refused (number refusal.Store))
-unfolding receive guarded
+unfolding receive checkedThen
 refused-store station store bus image s w = rw (s, w)
 
 receive-keeps : (station : Station) → soundStation station ≡ true → (store : List ℕ) (bus : ℕ) (image : List ℕ)
@@ -110,13 +113,16 @@ receive-keeps station s store bus image = go (fullSize store) refl
     go true w = let r = after-call station store (good station store s w) bus image in stays-sound _ _ (r .0)
     go false w = rw (refused-store station store bus image s w) s
 
+opened-keeps : (station : Station) → soundStation station ≡ true → (key : Key) → soundStation (opening station key .station) ≡ true
+unfolding opening
+opened-keeps station s key = open-keeps station key s _ refl
+
+closed-keeps : (station : Station) → soundStation station ≡ true → (i : ℕ) → soundStation (closing station i .station) ≡ true
+unfolding closing
+closed-keeps station s i = close-keeps station s (guarded (closeChecks station i) i)
+
 pub stays : StaysSound
-unfolding StaysSound opening closing
-stays station s = (
-  λ key. open-keeps station key s _ refl,
-  λ i. close-keeps station s (guarded (check refusal.State (soundStation station) ∷ check refusal.Closed (isOpen (station .slots) i) ∷ []) i),
-  λ store bus image. receive-keeps station s store bus image,
-)
+stays = record { opens = opened-keeps; closes = closed-keeps; receives = receive-keeps }
 
 -- ---- LONG
 
@@ -131,16 +137,19 @@ refused-under k [] u x n e = let z : _≡_ {A = ℕ} 0 1 = cc in absurd (omega a
 refused-under k (check name true ∷ rest) u x n e = refused-under k rest (u .1) x n e
 refused-under k (check name false ∷ rest) u x n e = let z : number name ≡ n = cc in omega (arith, u .0, z)
 
-judge-under : (format : Format) (image : List ℕ) (n : ℕ) → judge format image ≡ refused n → n ≤ 5
+pub judge-under : (format : Format) (image : List ℕ) (n : ℕ) → judge format image ≡ refused n → n ≤ 5
 unfolding judge checks
 judge-under format image n e =
     refused-under 5 (checks format (length image) (layout format image)) (omega arith, (omega arith, (omega arith, (omega arith, (omega arith, tt)))))
     (readBy (layout format image) image) n e
 
-only-field : {A : Type 0} (b : Bool) (x : A) (n : ℕ) → guarded (check refusal.Field b ∷ []) x ≡ refused n → n ≡ 9
-unfolding guarded
-only-field true x n e = let z : _≡_ {A = ℕ} 0 1 = cc in absurd (omega arith)
-only-field false x n e = cc
+examined-under : (format : Format) (bus : ℕ) (image : List ℕ) (n : ℕ) → examined format bus image ≡ refused n → n ≢ 8
+unfolding checkedThen
+examined-under format bus image n e = go (leb bus 1) e
+  where
+    go : (b : Bool) → cond b (judge format image) (refused (number refusal.Field)) ≡ refused n → n ≢ 8
+    go true e = λ q. omega (arith, q, judge-under format image n e)
+    go false e = let z : _≡_ {A = ℕ} 9 n = cc in λ q. omega (arith, q, z)
 
 NotLong : After → Type 0
 NotLong r = r .answer ≢ refused (number refusal.Long)
@@ -165,13 +174,10 @@ module _ (station : Station) (store : List ℕ) (g : Good station store) (standa
           step-not-long (station .format) standard i (at-slot station store g key frame c i (ltb-true _ _ e) refl .1) c
       go false e = λ q. let z : _≡_ {A = ℕ} 0 1 = cc in absurd (omega arith)
 
-  examined-not-long : (bus : ℕ) (image : List ℕ) (j : Result (Result Judged)) → examined (station .format) bus image ≡ j → NotLong (judgedAs station store bus j)
+  examined-not-long : (bus : ℕ) (image : List ℕ) (j : Result Judged) → examined (station .format) bus image ≡ j → NotLong (judgedAs station store bus j)
   unfolding NotLong
-  examined-not-long bus image (refused n) e = other n (λ q. omega (arith, q, only-field (leb bus 1) (judge (station .format) image) n e))
-  examined-not-long bus image (value (refused n)) e =
-      other n (λ q. let p = passed (check refusal.Field (leb bus 1) ∷ []) (judge (station .format) image) (refused n) e in
-      omega (arith, q, judge-under (station .format) image n (p .1)))
-  examined-not-long bus image (value (value judged)) e =
+  examined-not-long bus image (refused n) e = other n (examined-under (station .format) bus image n e)
+  examined-not-long bus image (value judged) e =
       deliver-not-long (keyOf bus (judged .frame)) (judged .frame) (frame-carries (station .format) bus image judged e)
 
 pub never : NeverLong
@@ -203,17 +209,16 @@ is-opened station key i e =
     rw q (o .0, (o .2, getD-set-same (station .slots) i (openSlot key Idle) closedSlot (o .1)))
 
 first-opened : (format : Format) (key : Key) → keyInRange format key ≡ true → opening (newStation format) key .answer ≡ value 0
-unfolding opening guarded place
+unfolding opening guarded place any
 first-opened format key e = rw (new-sound format, e)
 
 opens : (station : Station) (key : Key) → soundStation station ≡ true → keyInRange (station .format) key ≡ true
-    → place (hasKey key) (station .slots) ≡ 16 → place isClosed (station .slots) < 16
+    → any (hasKey key) (station .slots) ≡ false → any isClosed (station .slots) ≡ true
     → opening station key .answer ≡ value (place isClosed (station .slots))
 unfolding opening
 opens station key s r f l =
-    let free : not (ltb (place (hasKey key) (station .slots)) 16) ≡ true = rw f refl in
     sym (ap (λ (x : Result ℕ). changedAt station (openSlot key Idle) x .answer)
-    (pass refusal.State _ _ s (pass refusal.Field _ _ r (pass refusal.Taken _ _ free (pass refusal.Full _ _ (lt-ltb _ 16 l) (none-left _))))))
+    (pass refusal.State _ _ s (pass refusal.Field _ _ r (pass refusal.Taken _ _ (ap not f) (pass refusal.Full _ _ l (none-left _))))))
 
 -- the streams that are open stay
 beside-as : (station : Station) (key : Key) (i : ℕ) (stream : Stream) → IsStream station i stream → (r : Result ℕ)

@@ -1,6 +1,6 @@
 -- What one step keeps: the size of the area, and that the progress fits; and that a standard stream never has LONG.
 use Prim.Native.Nat.{ℕ, _+_, _-_, _≤_}
-use mathlib.Core.Path.{_≡_, refl, sym, _∙_}
+use mathlib.Core.Path.{_≡_, refl, sym, ap, _∙_}
 use mathlib.Core.Logic.{_≢_}
 use mathlib.Core.Bool.{Bool, true, false, cond}
 use mathlib.Core.List.{List}
@@ -23,6 +23,7 @@ use Rattle.frame.specs.Judge.{Frame, Judged, pieceRule, checks, readBy, judge}
 use Rattle.stream.specs.declared.Progress.{Progress}
 use Rattle.stream.specs.declared.Progress.the-variants.{Idle, Collecting, Done}
 use Rattle.stream.specs.Step.{Next, awaited, appended, followed, stepped, step}
+use Rattle.stream.proofs.Cases.{while-idle, while-done, while-collecting}
 use Rattle.slot.specs.Sound.{fits}
 
 -- ---- what a sound frame carries, by its flag: n is its number, k the count of its packet bytes
@@ -113,17 +114,18 @@ fits-end Standard h n k f r s = let t = each _ f in omega tests
 
 module _ (format : Format) (h : ℕ) (area : List ℕ) (n : ℕ) (bytes : List ℕ) (f : fits format (Collecting h) ≡ true) (l : length area ≡ 2048) where
   -- a middle or end, with what it makes of a progress that fits
-  keeps-appended : (last : Bool) → (leb (h + length bytes) 2048 ≡ true → eqb n (awaited (pieceSize format) (numberRange format) h) ≡ true
+  fits-on : (last : Bool) → fits format (cond last (Done (h + length bytes)) (Collecting (h + length bytes))) ≡ true
+      → leb (h + length bytes) 2048 ≡ true → Keeps format (appended last h area bytes)
+  fits-on false next w = record { fit = next; size = written-length area h bytes (omega (arith, leb-true)) ∙ l }
+  fits-on true next w = record { fit = next; size = written-length area h bytes (omega (arith, leb-true)) ∙ l }
+
+  keeps-followed : (last : Bool) → (leb (h + length bytes) 2048 ≡ true → eqb n (awaited (pieceSize format) (numberRange format) h) ≡ true
       → fits format (cond last (Done (h + length bytes)) (Collecting (h + length bytes))) ≡ true)
-      → (a w : Bool) → eqb n (awaited (pieceSize format) (numberRange format) h) ≡ a → leb (h + length bytes) 2048 ≡ w
-      → Keeps format (appended last h area bytes a w)
-  unfolding appended fits
-  keeps-appended last next false w ea ew = record { fit = refl; size = l }
-  keeps-appended last next true false ea ew = record { fit = refl; size = l }
-  keeps-appended false next true true ea ew =
-      record { fit = next ew ea; size = written-length area h bytes (omega (arith, leb-true)) ∙ l }
-  keeps-appended true next true true ea ew =
-      record { fit = next ew ea; size = written-length area h bytes (omega (arith, leb-true)) ∙ l }
+      → Keeps format (followed (pieceSize format) (numberRange format) last (Collecting h) area n bytes)
+  unfolding fits
+  keeps-followed last next =
+      while-collecting (Keeps format) _ _ last area n bytes h (λ a. record { fit = refl; size = l }) (λ a w. record { fit = refl; size = l })
+      (λ a w. fits-on last (next w a) w)
 
 fits-start : (format : Format) (k : ℕ) → k ≡ pieceSize format → fits format (Collecting k) ≡ true
 unfolding fits
@@ -141,20 +143,20 @@ small Standard k e = omega arith
 
 keeps-stepped : (format : Format) (flag : Flag) (progress : Progress) (area : List ℕ) (n : ℕ) (bytes : List ℕ) → fits format progress ≡ true → length area ≡ 2048
     → Carries format flag n (length bytes) → Keeps format (stepped (pieceSize format) (numberRange format) progress area flag n bytes)
-unfolding stepped followed
+unfolding stepped fits
 keeps-stepped format Single progress area n bytes f l r =
     record { fit = fits-single format (length bytes) r; size = written-length area 0 bytes (omega arith) ∙ l }
 keeps-stepped format Start progress area n bytes f l r =
     let k = small format (length bytes) r in
     record { fit = fits-start format (length bytes) r; size = written-length area 0 bytes (omega arith) ∙ l }
-keeps-stepped format Middle Idle area n bytes f l r = record { fit = f; size = l }
-keeps-stepped format Middle (Done h) area n bytes f l r = record { fit = f; size = l }
+keeps-stepped format Middle Idle area n bytes f l r = while-idle (Keeps format) _ _ false area n bytes (record { fit = refl; size = l })
+keeps-stepped format Middle (Done h) area n bytes f l r = while-done (Keeps format) _ _ false area n bytes h (record { fit = f; size = l })
 keeps-stepped format Middle (Collecting h) area n bytes f l r =
-    keeps-appended format h area n bytes f l false (λ w a. fits-middle format h n (length bytes) f r a w) _ _ refl refl
-keeps-stepped format End Idle area n bytes f l r = record { fit = f; size = l }
-keeps-stepped format End (Done h) area n bytes f l r = record { fit = f; size = l }
+    keeps-followed format h area n bytes f l false (λ w a. fits-middle format h n (length bytes) f r a w)
+keeps-stepped format End Idle area n bytes f l r = while-idle (Keeps format) _ _ true area n bytes (record { fit = refl; size = l })
+keeps-stepped format End (Done h) area n bytes f l r = while-done (Keeps format) _ _ true area n bytes h (record { fit = f; size = l })
 keeps-stepped format End (Collecting h) area n bytes f l r =
-    keeps-appended format h area n bytes f l true (λ w a. fits-end format h n (length bytes) f r w) _ _ refl refl
+    keeps-followed format h area n bytes f l true (λ w a. fits-end format h n (length bytes) f r w)
 
 pub keeps : (format : Format) (progress : Progress) (area : List ℕ) (frame : Frame) → fits format progress ≡ true → length area ≡ 2048
     → Carrying format frame → Keeps format (step format progress area frame)
@@ -166,28 +168,35 @@ keeps format progress area frame f l r = keeps-stepped format (frame .flag) prog
 Not-long : Next → Type 0
 Not-long next = next .answer ≢ refused (number refusal.Long)
 
-not-appended : (last : Bool) (h : ℕ) (area bytes : List ℕ) (a w : Bool) → (a ≡ true → w ≡ true) → Not-long (appended last h area bytes a w)
-unfolding appended Not-long
-not-appended last h area bytes false w room = λ e. let z : _≡_ {A = ℕ} 7 8 = cc in absurd (omega arith)
-not-appended last h area bytes true false room = λ e. let z : false ≡ true = room refl in let y : _≡_ {A = ℕ} 0 1 = cc in absurd (omega arith)
-not-appended false h area bytes true true room = λ e. let z : _≡_ {A = ℕ} 0 1 = cc in absurd (omega arith)
-not-appended true h area bytes true true room = λ e. let z : _≡_ {A = ℕ} 0 1 = cc in absurd (omega arith)
+not-kept : (last : Bool) (h : ℕ) (area bytes : List ℕ) → Not-long (appended last h area bytes)
+unfolding Not-long
+not-kept false h area bytes = λ e. let z : _≡_ {A = ℕ} 0 1 = cc in absurd (omega arith)
+not-kept true h area bytes = λ e. let z : _≡_ {A = ℕ} 0 1 = cc in absurd (omega arith)
+
+-- a middle or end
+module _ (last : Bool) (area : List ℕ) (n : ℕ) (bytes : List ℕ) where
+  not-followed : (progress : Progress)
+      → ((h : ℕ) → progress ≡ Collecting h → eqb n (awaited 7 256 h) ≡ true → leb (h + length bytes) 2048 ≡ true)
+      → Not-long (followed 7 256 last progress area n bytes)
+  unfolding Not-long
+  not-followed Idle room = while-idle Not-long 7 256 last area n bytes (λ e. let z : _≡_ {A = ℕ} 6 8 = cc in absurd (omega arith))
+  not-followed (Done h) room = while-done Not-long 7 256 last area n bytes h (λ e. let z : _≡_ {A = ℕ} 6 8 = cc in absurd (omega arith))
+  not-followed (Collecting h) room =
+      while-collecting Not-long 7 256 last area n bytes h (λ a e. let z : _≡_ {A = ℕ} 7 8 = cc in absurd (omega arith))
+      (λ a w e. let z : false ≡ true = sym w ∙ room h refl a in let y : _≡_ {A = ℕ} 0 1 = cc in absurd (omega arith))
+      (λ a w. not-kept last h area bytes)
 
 not-stepped : (flag : Flag) (progress : Progress) (area : List ℕ) (n : ℕ) (bytes : List ℕ) → fits Standard progress ≡ true → Carries Standard flag n (length bytes)
     → Not-long (stepped 7 256 progress area flag n bytes)
-unfolding stepped followed Not-long fits
+unfolding stepped Not-long fits
 not-stepped Single progress area n bytes f r = λ e. let z : _≡_ {A = ℕ} 0 1 = cc in absurd (omega arith)
 not-stepped Start progress area n bytes f r = λ e. let z : _≡_ {A = ℕ} 0 1 = cc in absurd (omega arith)
-not-stepped Middle Idle area n bytes f r = λ e. let z : _≡_ {A = ℕ} 6 8 = cc in absurd (omega arith)
-not-stepped Middle (Done h) area n bytes f r = λ e. let z : _≡_ {A = ℕ} 6 8 = cc in absurd (omega arith)
-not-stepped Middle (Collecting h) area n bytes f r =
-    let t = each _ f in
-    not-appended false h area bytes _ _ (λ (a : eqb n (awaited 7 256 h) ≡ true). le-leb (h + length bytes) 2048 (omega tests))
-not-stepped End Idle area n bytes f r = λ e. let z : _≡_ {A = ℕ} 6 8 = cc in absurd (omega arith)
-not-stepped End (Done h) area n bytes f r = λ e. let z : _≡_ {A = ℕ} 6 8 = cc in absurd (omega arith)
-not-stepped End (Collecting h) area n bytes f r =
-    let t = each _ f in
-    not-appended true h area bytes _ _ (λ (a : eqb n (awaited 7 256 h) ≡ true). le-leb (h + length bytes) 2048 (omega tests))
+not-stepped Middle progress area n bytes f r =
+    not-followed false area n bytes progress
+    (λ h p a. let t = each _ (sym (ap (fits Standard) p) ∙ f) in le-leb (h + length bytes) 2048 (omega tests))
+not-stepped End progress area n bytes f r =
+    not-followed true area n bytes progress
+    (λ h p a. let t = each _ (sym (ap (fits Standard) p) ∙ f) in le-leb (h + length bytes) 2048 (omega tests))
 
 pub never-long : (progress : Progress) (area : List ℕ) (frame : Frame) → fits Standard progress ≡ true → Carrying Standard frame
     → step Standard progress area frame .answer ≢ refused (number refusal.Long)

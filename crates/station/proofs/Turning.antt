@@ -15,9 +15,9 @@ use Rattle.format.specs.declared.Refusal.{Refusal}
 use Rattle.format.specs.declared.Refusal.the-variants.{Field, Store, State}
 use Rattle.format.specs.declared.Outcome.{Outcome}
 use Rattle.format.specs.declared.Outcome.the-variants as outcome
-use Rattle.format.proofs.Checks.{stop, passed}
+use Rattle.format.proofs.Checks.{stop-then, passed}
 use Rattle.format.specs.Refusals as answers
-use Rattle.format.specs.Refusals.{check, Result, value, refused, number, guarded}
+use Rattle.format.specs.Refusals.{check, Result, value, refused, number, guarded, checkedThen}
 use Rattle.frame.specs.declared.Head.{Head}
 use Rattle.frame.specs.declared.Verdict.{Verdict}
 use Rattle.frame.specs.declared.Verdict.the-variants as verdict
@@ -75,7 +75,7 @@ module _ (format : Format) (slots : List Slot) (store : List ℕ) (bus : ℕ) (i
   -- the image is a frame
   module _ (s : sound format slots ≡ true) (w : length store ≡ 32768) (b : bus ≤ 1) (judged : Judged) (e : value judged ≡ judge format image) where
     as-frame : receive (stationOf format slots) store bus image ≡ deliver (stationOf format slots) store (keyOf bus (judged .frame)) (judged .frame)
-    unfolding receive guarded
+    unfolding receive checkedThen
     as-frame = rw (s, eq-eqb (length store) 32768 w, le-leb bus 1 b, sym e)
 
     pub at-slot : (i : ℕ) → place (hasKey (keyOf bus (judged .frame))) slots ≡ i → i < 16
@@ -91,30 +91,30 @@ module _ (format : Format) (slots : List Slot) (store : List ℕ) (bus : ℕ) (i
         })
 
     pub on-frame : place (hasKey (keyOf bus (judged .frame))) slots ≡ concerned (stationOf format slots) store bus image
-    unfolding concerned guarded
+    unfolding concerned checkedThen
     on-frame = rw (s, eq-eqb (length store) 32768 w, le-leb bus 1 b, sym e) refl
 
   -- no slot is concerned
   pub on-image : (own : Refusal) → refused (number own) ≡ judge format image → 16 ≡ concerned (stationOf format slots) store bus image
-  unfolding concerned guarded
+  unfolding concerned checkedThen
   on-image own e = go (sound format slots) (eqb (length store) 32768) (leb bus 1)
     where
-      go : (s w b : Bool) → 16 ≡ concernedBy slots bus (cond s (cond w (cond b (value (judge format image)) (refused 9)) (refused 13)) (refused 21))
+      go : (s w b : Bool) → 16 ≡ concernedBy slots bus (cond s (cond w (cond b (judge format image) (refused 9)) (refused 13)) (refused 21))
       go false w b = refl
       go true false b = refl
       go true true false = refl
-      go true true true = ap (λ (j : Result Judged). concernedBy slots bus (value j)) e
+      go true true true = ap (λ (j : Result Judged). concernedBy slots bus j) e
 
   pub on-state : (key : Key) (name : Refusal) → refused (number name) ≡ sought format slots key → 16 ≡ concerned (stationOf format slots) store bus image
-  unfolding concerned guarded
+  unfolding concerned checkedThen
   on-state key name e = rw (sought-refused format slots key (number name) (sym e) .0) refl
 
   pub on-store : sound format slots ≡ true → length store ≢ 32768 → 16 ≡ concerned (stationOf format slots) store bus image
-  unfolding concerned guarded
+  unfolding concerned checkedThen
   on-store s w = rw (s, ne-eqb (length store) 32768 w) refl
 
   pub on-field : sound format slots ≡ true → length store ≡ 32768 → 1 < bus → 16 ≡ concerned (stationOf format slots) store bus image
-  unfolding concerned guarded
+  unfolding concerned checkedThen
   on-field s w b = rw (s, eq-eqb (length store) 32768 w, lt-leb bus 1 b) refl
 
   pub on-none : length slots ≡ 16 → sound format slots ≡ true → length store ≡ 32768 → bus ≤ 1 → (judged : Judged) → value judged ≡ judge format image
@@ -135,33 +135,33 @@ module _ (format : Format) (slots : List Slot) (store : List ℕ) (bus : ℕ) (i
     -- the image is refused
     pub at-image : (own : Refusal) → refused (number own) ≡ judge format image
         → unmoved (Refused (refusedAs format slots (length store) bus own)) ≡ receive (stationOf format slots) store bus image
-    unfolding refusedAs receive guarded
+    unfolding refusedAs receive checkedThen
     at-image own e = go (sound format slots) (eqb (length store) 32768) (leb bus 1)
       where
         go : (s w b : Bool)
             → unmoved (Refused (cond s (cond w (cond b own Field) Store) State))
-            ≡ judgedAs (stationOf format slots) store bus (cond s (cond w (cond b (value (judge format image)) (refused 9)) (refused 13)) (refused 21))
+            ≡ judgedAs (stationOf format slots) store bus (cond s (cond w (cond b (judge format image) (refused 9)) (refused 13)) (refused 21))
         go false w b = stays (Refused State) _ refl
         go true false b = stays (Refused Store) _ refl
         go true true false = stays (Refused Field) _ refl
-        go true true true = stays (Refused own) _ (ap (λ (j : Result Judged). judgedAs (stationOf format slots) store bus (value j)) (sym e))
+        go true true true = stays (Refused own) _ (ap (λ (j : Result Judged). judgedAs (stationOf format slots) store bus j) (sym e))
 
     pub at-state : (key : Key) (name : Refusal) → refused (number name) ≡ sought format slots key
         → unmoved (Refused name) ≡ receive (stationOf format slots) store bus image
     unfolding receive
     at-state key name e =
         let u = sought-refused format slots key (number name) (sym e) in
-        let why = sym (stop State _ _ (u .0)) ∙ ap refused (sym (u .1)) in
+        let why = sym (stop-then State _ _ (u .0)) ∙ ap refused (sym (u .1)) in
         stays (Refused name) _ (ap (judgedAs (stationOf format slots) store bus) why)
 
     pub at-store : sound format slots ≡ true → length store ≢ 32768
         → unmoved (Refused Store) ≡ receive (stationOf format slots) store bus image
-    unfolding receive guarded
+    unfolding receive checkedThen
     at-store s w = stays (Refused Store) _ (rw (s, ne-eqb (length store) 32768 w))
 
     pub at-field : sound format slots ≡ true → length store ≡ 32768 → 1 < bus
         → unmoved (Refused Field) ≡ receive (stationOf format slots) store bus image
-    unfolding receive guarded
+    unfolding receive checkedThen
     at-field s w b = stays (Refused Field) _ (rw (s, eq-eqb (length store) 32768 w, lt-leb bus 1 b))
 
     pub at-none : sound format slots ≡ true → length store ≡ 32768 → bus ≤ 1 → (judged : Judged) → value judged ≡ judge format image

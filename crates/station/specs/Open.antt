@@ -12,7 +12,7 @@ use Rattle.stream.specs.declared.Progress.the-variants.{Idle}
 use Rattle.slot.specs.declared.Key.{Key}
 use Rattle.slot.specs.declared.Slot.{Slot}
 use Rattle.slot.specs.Slots.{closedSlot, openSlot, slotAt, isClosed, hasKey, place}
-use Rattle.slot.specs.Sound.{keyInRange}
+use Rattle.slot.specs.Sound.{keyInRange, any}
 use Rattle.station.specs.declared.Station.{Station}
 use Rattle.station.specs.declared.Changed.{Changed}
 use Rattle.station.specs.Stations.{soundStation, withSlots}
@@ -31,15 +31,14 @@ changedAt station slot (refused n) = record { answer = refused n; station = stat
 -- open
 unfoldable pub opening : Station → Key → StationAfter
 opening station key =
-    let lowest : ℕ = place isClosed (station .slots) in
     changedAt station (openSlot key Idle)
     (guarded
     (check refusal.State (soundStation station)
     ∷ check refusal.Field (keyInRange (station .format) key)
-    ∷ check refusal.Taken (not (ltb (place (hasKey key) (station .slots)) 16))
-    ∷ check refusal.Full (ltb lowest 16)
+    ∷ check refusal.Taken (not (any (hasKey key) (station .slots)))
+    ∷ check refusal.Full (any isClosed (station .slots))
     ∷ [])
-    lowest)
+    (place isClosed (station .slots)))
 
 -- CLOSED: slot number over 15 or slot closed
 unfoldable pub isOpen : List Slot → ℕ → Bool

@@ -9,6 +9,7 @@ use Rattle.format.specs.declared.Refusal.the-variants as refusal
 use Rattle.format.specs.Refusals.{Result, value, refused, check, guarded}
 use Rattle.stream.specs.declared.Progress.{Progress}
 use Rattle.stream.specs.declared.Progress.the-variants.{Idle, Collecting, Done}
+use Rattle.stream.specs.Step.{held}
 use Rattle.slot.specs.Slots.{slotAt}
 use Rattle.station.specs.declared.Station.{Station}
 use Rattle.station.specs.Stations.{soundStation, area, fullSize}
@@ -19,12 +20,6 @@ abbrev pub isDone : Progress → Bool
 isDone Idle = false
 isDone (Collecting h) = false
 isDone (Done h) = true
-
--- h; 0 where nothing is held
-abbrev pub held : Progress → ℕ
-held Idle = 0
-held (Collecting h) = h
-held (Done h) = h
 
 -- the packet of slot i. CLOSED: slot number over 15 or slot closed. NOPACKET: slot not done
 unfoldable pub reading : Station → List ℕ → ℕ → Result (List ℕ)

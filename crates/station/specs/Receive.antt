@@ -8,7 +8,7 @@ use lib.Dec.{leb, ltb}
 use lib.ListN.{set}
 use Rattle.format.specs.declared.Format.{Format}
 use Rattle.format.specs.declared.Refusal.the-variants.{Field, Store, State}
-use Rattle.format.specs.Refusals.{Result, value, refused, check, guarded}
+use Rattle.format.specs.Refusals.{Result, value, refused, check, checkedThen}
 use Rattle.frame.specs.Judge.{Frame, Judged, judge}
 use Rattle.stream.specs.declared.Progress.{Progress}
 use Rattle.stream.specs.declared.Progress.the-variants.{Idle}
@@ -60,27 +60,28 @@ deliver station store key frame =
     let i : ℕ = place (hasKey key) (station .slots) in
     cond (ltb i 16) (stepAt station store i key frame) (unchanged station store (value filtered))
 
--- refused before the image is judged, refused by 1 to 5, or a frame
-abbrev pub judgedAs : Station → List ℕ → (bus : ℕ) → Result (Result Judged) → After
+-- refused, or a frame
+abbrev pub judgedAs : Station → List ℕ → (bus : ℕ) → Result Judged → After
 judgedAs station store bus (refused n) = unchanged station store (refused n)
-judgedAs station store bus (value (refused n)) = unchanged station store (refused n)
-judgedAs station store bus (value (value judged)) = deliver station store (keyOf bus (judged .frame)) (judged .frame)
+judgedAs station store bus (value judged) = deliver station store (keyOf bus (judged .frame)) (judged .frame)
 
--- STATE: station handed in not sound. STORE: store not 32,768 bytes. FIELD: a bus handed in is out of range. Then the image is judged
-abbrev pub letIn : Station → List ℕ → (bus : ℕ) → List ℕ → Result (Result Judged)
+-- FIELD: a bus handed in is out of range. Then the image is judged: LENGTH, FORM, REMOTE, COUNT, PIECE
+abbrev pub examined : Format → (bus : ℕ) → List ℕ → Result Judged
+examined format bus image = checkedThen (check Field (leb bus 1) ∷ []) (judge format image)
+
+-- STATE: station handed in not sound. STORE: store not 32,768 bytes. Then what `examined` says
+abbrev pub letIn : Station → List ℕ → (bus : ℕ) → List ℕ → Result Judged
 letIn station store bus image =
-    guarded (check State (soundStation station) ∷ check Store (fullSize store) ∷ check Field (leb bus 1) ∷ [])
-    (judge (station .format) image)
+    checkedThen (check State (soundStation station) ∷ check Store (fullSize store) ∷ []) (examined (station .format) bus image)
 
 unfoldable pub receive : Station → List ℕ → (bus : ℕ) → List ℕ → After
 receive station store bus image = judgedAs station store bus (letIn station store bus image)
 
 -- the slot that a call concerns: the one that is open with the frame's key, also where that stream answers ORPHAN, STEP or LONG; 16,
 -- which is none of sixteen, where the call is refused by 21, 13, 9 or 1 to 5, or no slot is open with the key
-abbrev pub concernedBy : List Slot → (bus : ℕ) → Result (Result Judged) → ℕ
+abbrev pub concernedBy : List Slot → (bus : ℕ) → Result Judged → ℕ
 concernedBy slots bus (refused n) = 16
-concernedBy slots bus (value (refused n)) = 16
-concernedBy slots bus (value (value judged)) = place (hasKey (keyOf bus (judged .frame))) slots
+concernedBy slots bus (value judged) = place (hasKey (keyOf bus (judged .frame))) slots
 
 unfoldable pub concerned : Station → List ℕ → (bus : ℕ) → List ℕ → ℕ
 concerned station store bus image = concernedBy (station .slots) bus (letIn station store bus image)

@@ -1,19 +1,16 @@
--- Document 01, "Streams and receiving", the two paragraphs before the last: a run, a stream's frames, the one-stream receiver.
+-- Document 01, "Streams and receiving", the paragraph on runs: a run, and a stream's frames in it. The one-stream receiver, which the
+-- paragraph after it defines, stands in crate `stream` (OneStream).
 use Prim.Native.Nat.{ℕ}
 use mathlib.Core.Bool.{cond}
 use mathlib.Core.List.{List, [], _∷_}
-use lib.Dec.{leb}
 use Rattle.format.specs.declared.Format.{Format}
-use Rattle.format.specs.declared.Refusal.the-variants.{Field}
-use Rattle.format.specs.Refusals.{Result, value, refused, check, guarded}
-use Rattle.frame.specs.Judge.{Frame, Judged, judge}
-use Rattle.stream.specs.declared.Progress.{Progress}
+use Rattle.format.specs.Refusals.{Result, value, refused}
+use Rattle.frame.specs.Judge.{Frame, Judged}
 use Rattle.stream.specs.Answers.{Reply}
-use Rattle.stream.specs.Step.{Next, step}
 use Rattle.slot.specs.declared.Key.{Key}
 use Rattle.slot.specs.Slots.{sameKey}
 use Rattle.station.specs.declared.Station.{Station}
-use Rattle.station.specs.Receive.{After, keyOf, receive}
+use Rattle.station.specs.Receive.{After, keyOf, examined, receive}
 
 -- "a run is a list of receiving calls [..], each a bus number and an image given beforehand"
 pub record Call : Type 0 where
@@ -41,16 +38,11 @@ runOn front station store (call ∷ calls) =
 abbrev pub run : Station → List ℕ → List Call → Ran
 run station store calls = runOn receive station store calls
 
--- an image on a bus, with 9 and then 1 to 5 judged
-abbrev pub examined : Format → (bus : ℕ) → List ℕ → Result (Result Judged)
-examined format bus image = guarded (check Field (leb bus 1) ∷ []) (judge format image)
-
 -- "Its frames are the images received on its key's bus, with its key's fields, that 1 to 5 and 9 don't refuse": x is added in
 -- front of xs if the examined image is a frame of the key
-unfoldable pub addIfOf : {A : Type 0} → Key → (bus : ℕ) → Result (Result Judged) → (Frame → A) → List A → List A
+unfoldable pub addIfOf : {A : Type 0} → Key → (bus : ℕ) → Result Judged → (Frame → A) → List A → List A
 addIfOf key bus (refused n) x xs = xs
-addIfOf key bus (value (refused n)) x xs = xs
-addIfOf key bus (value (value judged)) x xs = cond (sameKey key (keyOf bus (judged .frame))) (x (judged .frame) ∷ xs) xs
+addIfOf key bus (value judged) x xs = cond (sameKey key (keyOf bus (judged .frame))) (x (judged .frame) ∷ xs) xs
 
 unfoldable pub framesOf : Format → Key → List Call → List Frame
 framesOf format key [] = []
@@ -63,16 +55,3 @@ answersOf format key [] answers = []
 answersOf format key (call ∷ calls) [] = []
 answersOf format key (call ∷ calls) (answer ∷ answers) =
     addIfOf key (call .bus) (examined format (call .bus) (call .image)) (λ frame. answer) (answersOf format key calls answers)
-
--- "The one-stream receiver has one format, a state [..] and 2,048 bytes. [..] and is fed the stream's frames one by one."
-pub record Alone : Type 0 where
-  pub answers : List (Result Reply)
-  pub progress : Progress
-  pub area : List ℕ
-
-unfoldable pub oneStream : Format → Progress → List ℕ → List Frame → Alone
-oneStream format progress area [] = record { answers = []; progress = progress; area = area }
-oneStream format progress area (frame ∷ frames) =
-    let next : Next = step format progress area frame in
-    let rest : Alone = oneStream format (next .progress) (next .area) frames in
-    record { answers = next .answer ∷ rest .answers; progress = rest .progress; area = rest .area }

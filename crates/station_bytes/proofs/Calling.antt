@@ -12,7 +12,7 @@ use Rattle.copying.specs.Copy.{copied}
 use Rattle.format.specs.declared.Format.{Format}
 use Rattle.format.specs.declared.Refusal.{Refusal}
 use Rattle.format.specs.declared.Refusal.the-variants as refusal
-use Rattle.format.specs.Refusals.{Result, value, refused, number, guarded}
+use Rattle.format.specs.Refusals.{Result, value, refused, number, checkedThen}
 use Rattle.format.specs.Tests.{allTrue}
 use Rattle.format.proofs.Tests.{each}
 use Rattle.frame.specs.Judge.{Frame, Judged, judge}
@@ -88,7 +88,7 @@ first-in (Open stream) key e = ap keyCode (sym (same-key (stream .key) key e))
 -- the bytes are no sound station's
 pub receive-state : (state codes : List ℕ) (r : Bool) → Tested state r codes → r ≡ false → (store : List ℕ) (bus : ℕ) (image : List ℕ)
     → bytesAfter (Refused refusal.State) state store ≡ receiveIn state store bus image
-unfolding receiveIn receiving.receive guarded
+unfolding receiveIn receiving.receive checkedThen
 receive-state state codes r t e store bus image = go (isState state) refl
   where
     go : (b : Bool) → isState state ≡ b

@@ -30,7 +30,8 @@ use Rattle.station.specs.Stations.{soundStation, withSlots}
 use Rattle.station.specs.Receive.{progressOf}
 use Rattle.station.specs.Open as handing
 use Rattle.station.specs.Open.{opening, closing, isOpen}
-use Rattle.station.specs.Read.{isDone, held, reading, lengthOf}
+use Rattle.stream.specs.Step.{held}
+use Rattle.station.specs.Read.{isDone, reading, lengthOf}
 use Rattle.station.proofs.Handing as station
 use Rattle.words.specs.Words.{wordBytes, wordAt}
 use Rattle.station_bytes.specs.States.{formatNumber, formatAt, progressFrom, keyIn, firstOf, secondOf, slotsFrom, stateBytes, stationIn, isState}

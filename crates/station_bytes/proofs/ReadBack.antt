@@ -30,7 +30,8 @@ use Rattle.slot.specs.Sound.{keyInRange, fits, slotSound, slotsSound, sound}
 use Rattle.slot.specs.Codes.{keyCode}
 use Rattle.station.specs.declared.Station.{Station}
 use Rattle.station.specs.Stations.{stationOf, soundStation}
-use Rattle.station.specs.Read.{held, reading}
+use Rattle.stream.specs.Step.{held}
+use Rattle.station.specs.Read.{reading}
 use Rattle.words.specs.Words.{wordBytes, wordAt}
 use Rattle.words.proofs.Laws.{read-after, four}
 use Rattle.station_bytes.specs.States.{formatNumber, formatIn, formatAt, progressNumber, progressFrom, keyIn, firstOf, secondOf, slotBytes, slotsBytes, stateBytes, slotIn, slotsFrom, slotWritten, slotsWritten, stationIn, isState}

@@ -1,28 +1,25 @@
 -- What is promised of a station in lent bytes. `ReadBack`, `WrittenBack` and `NotWritten` are of the bytes, `AsFirst` and `StaySound` of one
 -- call, `AsRun`, `Demand3OnBytes` and `RoundTripOnBytes` of calls one after the other. Proofs: proofs/ReadBack.antt (the bytes) and
 -- proofs/Runs.antt (the calls).
-use Prim.Native.Nat.{ℕ, _≤_}
+use Prim.Native.Nat.{ℕ}
 use mathlib.Core.Path.{_≡_}
 use mathlib.Core.Logic.{_≢_}
-use mathlib.Core.Bool.{Bool, true}
+use mathlib.Core.Bool.{true, cond, _||_}
 use mathlib.Core.List.{List, [], _∷_}
+use lib.Dec.{eqb}
 use lib.ListN.{length}
 use Rattle.format.specs.declared.Format.{Format}
-use Rattle.format.specs.declared.Refusal.the-variants.{State}
-use Rattle.format.specs.Refusals.{value, refused, number}
-use Rattle.format.specs.Formats.{packetLimit}
+use Rattle.format.specs.declared.Refusal.the-variants.{Step, Long, State}
+use Rattle.format.specs.Refusals.{refused, number}
 use Rattle.frame.specs.Claims.{Bytes}
-use Rattle.packet.specs.Split.{pieces}
-use Rattle.stream.specs.Step.{collecting}
 use Rattle.slot.specs.declared.Key.{Key}
-use Rattle.slot.specs.declared.Stream.{Stream}
 use Rattle.station.specs.declared.Station.{Station}
 use Rattle.station.specs.Stations.{soundStation, fullSize}
-use Rattle.station.specs.Receive.{receive}
+use Rattle.station.specs.Receive.{receive, concerned}
 use Rattle.station.specs.Open.{opening, closing}
 use Rattle.station.specs.Read.{reading}
-use Rattle.station.specs.Run.{Call, Ran, run, framesOf, answersOf}
-use Rattle.station.specs.Demands.{IsStream, Isolated, SameFrames, Agree, fed, woven, answersTo}
+use Rattle.station.specs.Run.{Call, Ran, run}
+use Rattle.station.specs.Demands.{Demand3From, RoundTripFrom, leftBy}
 use Rattle.station_bytes.specs.States.{stateBytes, stationIn, isState}
 use Rattle.station_bytes.specs.Calls.{BytesAfter, inBytes, receiveIn, asState, notState, renewed, openIn, closeIn, readIn}
 
@@ -75,6 +72,20 @@ pub record StaySound : Type 0 where
   pub closes : (station : Station) → soundStation station ≡ true → (i : ℕ) → AreSound (closeIn (stateBytes station) i .state)
   pub new : (state : List ℕ) → length state ≡ 129 → (format : Format) → AreSound (renewed state format .state)
 
+-- "Nothing is written and the state handed back is the one handed in, except the idle slot after 7 and 8": the bytes that a call refused by n
+-- leaves, where it concerned slot i
+unfoldable pub leftIn : (n : ℕ) → List ℕ → (i : ℕ) → List ℕ
+leftIn n state i = cond (eqb n (number Step) || eqb n (number Long)) (stateBytes (leftBy n (stationIn state) i)) state
+
+pub record RefusedKeeps : Type 0 where
+  pub receives : (state : List ℕ) → Bytes state → (store : List ℕ) (bus : ℕ) (image : List ℕ) (n : ℕ)
+      → receiveIn state store bus image .answer ≡ refused n
+      → receiveIn state store bus image
+      ≡ record { answer = refused n; state = leftIn n state (concerned (stationIn state) store bus image); store = store }
+  pub opens : (state : List ℕ) → Bytes state → (key : Key) (n : ℕ) → openIn state key .answer ≡ refused n → openIn state key .state ≡ state
+  pub closes : (state : List ℕ) → Bytes state → (i n : ℕ) → closeIn state i .answer ≡ refused n → closeIn state i .state ≡ state
+  pub renews : (state : List ℕ) (format : Format) (n : ℕ) → renewed state format .answer ≡ refused n → renewed state format .state ≡ state
+
 -- ---- calls one after the other
 
 -- each gets the state's and the store's bytes as the last left them, and what it gives meets the contract of `receive`
@@ -97,36 +108,36 @@ ended state store (given ∷ givens) =
     let rest : Ran = ended (given .state) (given .store) givens in
     record { answers = given .answer ∷ rest .answers; station = rest .station; store = rest .store }
 
--- on the bytes of a sound station they are the run of the station's own `receive`, and the bytes in the end are those of its station
+-- calls on the bytes of a station that end so
+pub record CallsEnd (station : Station) (store : List ℕ) (calls : List Call) (ran : Ran) : Type 0 where
+  pub givens : List BytesAfter
+  pub chained : Chained (stateBytes station) store calls givens
+  pub ends : ended (stateBytes station) store givens ≡ ran
+
+-- on the bytes of a sound station they end as the run of the station's own `receive` does, and the bytes in the end are those of its
+-- station
+pub record EndsAsRun (station : Station) (store : List ℕ) (calls : List Call) (ran : Ran) (end : CallsEnd station store calls ran) : Type 0 where
+  pub same : run station store calls ≡ ran
+  pub last : lastOf (stateBytes station) (end .givens) ≡ stateBytes (ran .station)
+
 unfoldable pub AsRun : Type 0
 AsRun =
-    (station : Station) → soundStation station ≡ true → (calls : List Call) (store : List ℕ) (givens : List BytesAfter)
-    → Chained (stateBytes station) store calls givens
-    → (ended (stateBytes station) store givens ≡ run station store calls)
-    × (lastOf (stateBytes station) givens ≡ stateBytes (run station store calls .station))
+    (station : Station) (store : List ℕ) → soundStation station ≡ true → (calls : List Call) (ran : Ran) (end : CallsEnd station store calls ran)
+    → EndsAsRun station store calls ran end
 
--- so demand 3 holds of them, for every sound station and full-size store
+-- so demand 3, and the last sentence of demand 2, hold of them, for every sound station and full-size store
 unfoldable pub Demand3OnBytes : Type 0
 Demand3OnBytes =
     (station : Station) (store : List ℕ) → soundStation station ≡ true → fullSize store ≡ true
-    → ((calls : List Call) (givens : List BytesAfter) → Chained (stateBytes station) store calls givens
-    → Isolated station store calls (ended (stateBytes station) store givens))
-    × ((calls others : List Call) (givens otherGivens : List BytesAfter)
-    → Chained (stateBytes station) store calls givens → Chained (stateBytes station) store others otherGivens → SameFrames station calls others
-    → Agree station calls others (ended (stateBytes station) store givens) (ended (stateBytes station) store otherGivens))
+    → Demand3From station store (CallsEnd station store)
 
--- and the last sentence of demand 2, as the station's RoundTripOn has it: a packet's pieces, with whatever else is received between
--- them, end in that packet, which is read from the bytes in the end
 unfoldable pub RoundTripOnBytes : Type 0
 RoundTripOnBytes =
     (station : Station) (store : List ℕ) → soundStation station ≡ true → fullSize store ≡ true
-    → (i : ℕ) (stream : Stream) → IsStream station i stream
-    → (bytes : List ℕ) → length bytes ≤ packetLimit (station .format)
-    → (others : List Call) → framesOf (station .format) (stream .key) others ≡ []
-    → (choices : List Bool)
-    → let frames = pieces (stream .key .fields) bytes in
-    let calls = woven choices (fed (stream .key .bus) frames) others in
-    (givens : List BytesAfter) → Chained (stateBytes station) store calls givens
-    → let ran = ended (stateBytes station) store givens in
-    (readIn (lastOf (stateBytes station) givens) (ran .store) i ≡ value bytes)
-    × (answersOf (station .format) (stream .key) calls (ran .answers) ≡ answersTo (length frames) (length bytes) (collecting (stream .progress)))
+    → RoundTripFrom station store (CallsEnd station store)
+
+-- and what is read of the station in the end is read from the bytes in the end
+unfoldable pub ReadAtEnd : Type 0
+ReadAtEnd =
+    (station : Station) (store : List ℕ) → soundStation station ≡ true → (calls : List Call) (ran : Ran) (end : CallsEnd station store calls ran)
+    → (i : ℕ) → readIn (lastOf (stateBytes station) (end .givens)) (ran .store) i ≡ reading (ran .station) (ran .store) i

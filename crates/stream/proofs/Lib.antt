@@ -1,2 +1,3 @@
 mod Steps
 pub mod Answers
+pub mod Cases

@@ -4,7 +4,6 @@ use mathlib.Core.Path.{_≡_}
 use mathlib.Core.Bool.{Bool, true, false}
 use mathlib.Core.List.{List}
 use native.Mathlib.Nat.{zero-add}
-use lib.Dec.{leb, eqb}
 use lib.ListN.{length}
 use borrow.Author.Tests.{ne-eqb, eq-eqb, le-leb, lt-leb}
 use Rattle.copying.specs.Copy.{written}
@@ -18,47 +17,46 @@ use Rattle.stream.specs.declared.Progress.{Progress}
 use Rattle.stream.specs.declared.Progress.the-variants.{Idle, Collecting, Done}
 use Rattle.stream.specs.declared.Answer.the-variants.{Packet, Kept, Refused}
 use Rattle.stream.specs.declared.Stepped.{Stepped}
-use Rattle.stream.specs.Step.{Next, collecting, awaited, appended, followed, stepped, offered, nextOf}
+use Rattle.stream.specs.Step.{Next, collecting, follows, progressAfter, followed, stepped, offered, nextOf}
 
--- a middle or end while h bytes are held, which the code has as `held`
-module _ (z m : ℕ) (last : Bool) (h : ℕ) (area : List ℕ) (n : ℕ) (bytes : List ℕ) (held : ℕ) (e : held ≡ h) where
-  abbrev Appended : Stepped → List ℕ → Type 0
-  Appended r next = nextOf r next ≡ appended last h area bytes (eqb n (awaited z m h)) (leb (h + length bytes) 2048)
+-- a middle or end while h bytes are held, which the code has as `had`
+module _ (z m : ℕ) (last : Bool) (h : ℕ) (area : List ℕ) (n : ℕ) (bytes : List ℕ) (had : ℕ) (e : had ≡ h) where
+  abbrev Follows : Stepped → List ℕ → Type 0
+  Follows r next = nextOf r next ≡ followed z m last (Collecting h) area n bytes
 
-  pub out-of-step : (r : Stepped) → r ≡ record { answer = Refused Step; progress = Idle } → (n ≡ held / z % m → ⊥) → Appended r area
-  unfolding appended
-  out-of-step r er ne = rw (er, ← e, ne-eqb n (held / z % m) ne)
+  pub out-of-step : (r : Stepped) → r ≡ record { answer = Refused Step; progress = Idle } → (n ≡ had / z % m → ⊥) → Follows r area
+  unfolding followed follows guarded progressAfter
+  out-of-step r er ne = rw (er, ← e, ne-eqb n (had / z % m) ne)
 
   pub too-long : (r : Stepped) → r ≡ record { answer = Refused Long; progress = Idle }
-      → n ≡ held / z % m → 2048 < held + length bytes → Appended r area
-  unfolding appended
-  too-long r er en l = rw (er, ← e, eq-eqb n (held / z % m) en, lt-leb (held + length bytes) 2048 l)
+      → n ≡ had / z % m → 2048 < had + length bytes → Follows r area
+  unfolding followed follows guarded progressAfter
+  too-long r er en l = rw (er, ← e, eq-eqb n (had / z % m) en, lt-leb (had + length bytes) 2048 l)
 
-  module _ (en : n ≡ held / z % m) (l : held + length bytes ≤ 2048)
-      (end : ℕ) (ee : end ≡ held + length bytes) (next : List ℕ) (w : next ≡ written area held bytes) where
-    pub ended : last ≡ true → Appended (record { answer = Packet (held + length bytes) false; progress = Done end }) next
-    unfolding appended
-    ended b = rw (← e, eq-eqb n (held / z % m) en, le-leb (held + length bytes) 2048 l, b, ee, w)
+  module _ (en : n ≡ had / z % m) (l : had + length bytes ≤ 2048)
+      (end : ℕ) (ee : end ≡ had + length bytes) (next : List ℕ) (w : next ≡ written area had bytes) where
+    pub ended : last ≡ true → Follows (record { answer = Packet (had + length bytes) false; progress = Done end }) next
+    unfolding followed follows guarded
+    ended b = rw (← e, eq-eqb n (had / z % m) en, le-leb (had + length bytes) 2048 l, b, ee, w)
 
-    pub went-on : last ≡ false → Appended (record { answer = Kept false; progress = Collecting end }) next
-    unfolding appended
-    went-on b = rw (← e, eq-eqb n (held / z % m) en, le-leb (held + length bytes) 2048 l, b, ee, w)
+    pub went-on : last ≡ false → Follows (record { answer = Kept false; progress = Collecting end }) next
+    unfolding followed follows guarded
+    went-on b = rw (← e, eq-eqb n (had / z % m) en, le-leb (had + length bytes) 2048 l, b, ee, w)
 
 -- a middle or end
 module _ (z m : ℕ) (last : Bool) (progress : Progress) (area : List ℕ) (n : ℕ) (bytes : List ℕ) where
   pub idle : (r : Stepped) → r ≡ record { answer = Refused Orphan; progress = progress } → progress ≡ Idle
       → nextOf r area ≡ followed z m last progress area n bytes
-  unfolding followed
+  unfolding followed follows guarded progressAfter
   idle r er e = rw (er, e)
 
   pub done : (h : ℕ) (r : Stepped) → r ≡ record { answer = Refused Orphan; progress = progress } → progress ≡ Done h
       → nextOf r area ≡ followed z m last progress area n bytes
-  unfolding followed
+  unfolding followed follows guarded progressAfter
   done h r er e = rw (er, e)
 
   pub begun : (h : ℕ) → progress ≡ Collecting h → (next : Next)
-      → next ≡ appended last h area bytes (eqb n (awaited z m h)) (leb (h + length bytes) 2048) → next ≡ followed z m last progress area n bytes
-  unfolding followed
+      → next ≡ followed z m last (Collecting h) area n bytes → next ≡ followed z m last progress area n bytes
   begun h e next d = rw e d
 
 -- a frame by its flag

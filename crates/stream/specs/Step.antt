@@ -2,7 +2,7 @@
 -- step of the one-stream receiver: "At each it does what the rules above say for a frame of its key: that gives its answer
 -- ("broke" or a refusal's number included), its next state and its bytes. Bytes not written stay. It knows no other stream."
 use Prim.Native.Nat.{ℕ, _+_, _/_, _%_}
-use mathlib.Core.Bool.{Bool, true, false}
+use mathlib.Core.Bool.{Bool, true, false, cond}
 use mathlib.Core.List.{List, [], _∷_}
 use lib.Dec.{leb, eqb}
 use lib.ListN.{length}
@@ -12,7 +12,7 @@ use Rattle.format.specs.declared.Flag.{Flag}
 use Rattle.format.specs.declared.Flag.the-variants.{Middle, Start, End, Single}
 use Rattle.format.specs.declared.Refusal.the-variants as refusal
 use Rattle.format.specs.Formats.{pieceSize, numberRange}
-use Rattle.format.specs.Refusals.{Result, value, refused, number, check, guarded}
+use Rattle.format.specs.Refusals.{Result, value, refused, number, Check, check, guarded}
 use Rattle.frame.specs.Judge.{Frame}
 use Rattle.stream.specs.declared.Stepped.{Stepped}
 use Rattle.stream.specs.declared.Progress.{Progress}
@@ -30,29 +30,44 @@ collecting Idle = false
 collecting (Collecting h) = true
 collecting (Done h) = false
 
+-- h; 0 where nothing is held
+abbrev pub held : Progress → ℕ
+held Idle = 0
+held (Collecting h) = h
+held (Done h) = h
+
 -- "The number awaited is h divided by the piece size, modulo 64 in extended": over the piece size z and the number range m. A sound
 -- standard stream holds 1,785 bytes at most while collecting, so that modulo 256 is no change there
 abbrev pub awaited : (z m h : ℕ) → ℕ
 awaited z m h = h / z % m
 
--- a middle or end while h bytes are held, `last` for an end.
--- another number than awaited: STEP, then idle, no byte written.
--- the sum would pass 2,048: LONG, then idle, no byte written.
--- else the bytes follow those held; "kept", or "packet" and done for an end.
-unfoldable pub appended : (last : Bool) (h : ℕ) (area bytes : List ℕ) (asAwaited within : Bool) → Next
-appended last h area bytes false within = record { answer = refused (number refusal.Step); progress = Idle; area = area }
-appended last h area bytes true false = record { answer = refused (number refusal.Long); progress = Idle; area = area }
-appended false h area bytes true true =
+-- a middle or end of number n with that many packet bytes. ORPHAN: when not collecting. STEP: another number than awaited. LONG: the sum
+-- would pass 2,048
+unfoldable pub follows : (z m : ℕ) → Progress → (n size : ℕ) → List Check
+follows z m progress n size =
+    check refusal.Orphan (collecting progress)
+    ∷ check refusal.Step (eqb n (awaited z m (held progress)))
+    ∷ check refusal.Long (leb (held progress + size) 2048)
+    ∷ []
+
+-- "ORPHAN, nothing changes"; "STEP, then idle, no byte written"; "LONG, then idle, no byte written"
+unfoldable pub progressAfter : (n : ℕ) → Progress → Progress
+progressAfter n progress = cond (eqb n (number refusal.Orphan)) progress Idle
+
+abbrev pub unlessRefused : Progress → (area : List ℕ) → Result Next → Next
+unlessRefused progress area (value next) = next
+unlessRefused progress area (refused n) = record { answer = refused n; progress = progressAfter n progress; area = area }
+
+-- "else the bytes follow those held; "kept", or "packet" and done for an end": `last` for an end
+abbrev pub appended : (last : Bool) (h : ℕ) (area bytes : List ℕ) → Next
+appended false h area bytes =
     record { answer = value (kept false); progress = Collecting (h + length bytes); area = written area h bytes }
-appended true h area bytes true true =
+appended true h area bytes =
     record { answer = value (packet (h + length bytes) false); progress = Done (h + length bytes); area = written area h bytes }
 
--- middle or end when not collecting: ORPHAN, nothing changes
 unfoldable pub followed : (z m : ℕ) (last : Bool) → Progress → (area : List ℕ) (n : ℕ) (bytes : List ℕ) → Next
-followed z m last Idle area n bytes = record { answer = refused (number refusal.Orphan); progress = Idle; area = area }
-followed z m last (Done h) area n bytes = record { answer = refused (number refusal.Orphan); progress = Done h; area = area }
-followed z m last (Collecting h) area n bytes =
-    appended last h area bytes (eqb n (awaited z m h)) (leb (h + length bytes) 2048)
+followed z m last progress area n bytes =
+    unlessRefused progress area (guarded (follows z m progress n (length bytes)) (appended last (held progress) area bytes))
 
 -- a frame by its flag, number n and packet bytes.
 -- single: its bytes go to the head of the area; done; answer "packet" with the length.

@@ -4,10 +4,9 @@ use format::Format;
 use format::Refusal;
 ghost use mathlib.Core.Path.{_≡_};
 ghost use Prim.Native.Nat.{_+_, _≤_, _<_};
-ghost use lib.Dec.{leb, eqb};
 ghost use lib.ListN.{length};
 ghost use Rattle.copying.specs.Copy.{written};
-ghost use Rattle.stream.specs.Step.{collecting, awaited, appended, followed, stepped, offered, nextOf};
+ghost use Rattle.stream.specs.Step.{collecting, followed, stepped, offered, nextOf};
 
 // How far a stream is. Collecting and Done hold h, the number of bytes at the head of the area.
 pub enum Progress {
@@ -90,7 +89,7 @@ fn append(
     area: &mut [u8],
 ) -> Stepped
     requires { ⌜ (0 < z) × (0 < m) × (length (now area) ≡ 2048) × (length (now bytes) ≤ 8) ⌝ }
-    ensures { λ r. ⌜ nextOf r (now (area .exit)) ≡ appended last h (now (area .entry)) (now (bytes .entry)) (eqb number (awaited z m h)) (leb (h + length (now (bytes .entry))) 2048) ⌝ }
+    ensures { λ r. ⌜ nextOf r (now (area .exit)) ≡ followed z m last (Progress.Collecting h) (now (area .entry)) number (now (bytes .entry)) ⌝ }
 {
     let held = wide(h);
     let awaited = held / z % m;

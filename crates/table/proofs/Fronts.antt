@@ -1,5 +1,5 @@
 -- The two fronts meet one definition, so that whatever holds of calls and runs on the first holds on the second (`on-table`): it is carried
--- over, with no induction over calls. `as-run` has the only one, by which calls one after the other are a run.
+-- over, with no induction over calls. `chained` has the only one, by which calls one after the other are a run.
 use Prim.Native.Nat.{ℕ}
 use mathlib.Core.Path.{_≡_, refl, sym, ap, _∙_, subst, subst₂}
 use mathlib.Core.Logic.{_≢_}
@@ -19,12 +19,13 @@ use Rattle.slot.specs.declared.Slot.{Slot}
 use Rattle.slot.specs.Slots.{closedSlot, slotAt, hasKey, place}
 use Rattle.station.specs.Stations.{stationOf}
 use Rattle.station.specs.Receive.{After, unchanged, keyOf, judgedAs, letIn, deliver, stepAt, receive, concernedBy, concerned}
-use Rattle.station.specs.Run.{Ran, runOn, run}
-use Rattle.station.specs.Demands.{Isolated, Agree, Demand3On, RoundTripOn}
-use Rattle.station.proofs.Isolation.{demand3}
-use Rattle.station.proofs.RoundTrip.{round-trip}
+use Rattle.station.specs.Run.{Call, Ran, runOn, run}
+use Rattle.station.specs.Demands.{Demand3On, RoundTripOn}
+use Rattle.station.proofs.Isolation.{demand3, demand3-of}
+use Rattle.station.proofs.RoundTrip.{round-trip, round-trip-of}
+use Rattle.station.proofs.Refusals.{refused-keeps as refusals}
 use Rattle.table.specs.Front.{afterIn}
-use Rattle.table.specs.Claims.{Given, AsFirst, OneGiven, OneRecord, NotSound, OtherLength, Second, AlwaysMeets, onTable, OnTable, Chained, ended, AsRun, Demand3OnCalls}
+use Rattle.table.specs.Claims.{Given, AsFirst, OneGiven, OneRecord, NotSound, OtherLength, Second, AlwaysMeets, onTable, OnTable, Chained, ended, AsRun, Demand3OnCalls, RoundTripOnCalls, RefusedKeeps}
 use Rattle.table.proofs.Refused.{unsound-length, unsound-refused}
 
 pub as-first : AsFirst
@@ -65,11 +66,10 @@ module _ (format : Format) (table : List Slot) (store : List ℕ) (bus : ℕ) (i
   stays-in true key frame h = getD-set-other table (place (hasKey key) table) i _ closedSlot h
   stays-in false key frame h = refl
 
-  stays : (j : Result (Result Judged)) → i ≢ concernedBy table bus j → slotAt (judgedAs (stationOf format table) store bus j .station .slots) i ≡ slotAt table i
+  stays : (j : Result Judged) → i ≢ concernedBy table bus j → slotAt (judgedAs (stationOf format table) store bus j .station .slots) i ≡ slotAt table i
   unfolding deliver
   stays (refused n) h = refl
-  stays (value (refused n)) h = refl
-  stays (value (value judged)) h =
+  stays (value judged) h =
       stays-in (ltb (place (hasKey (keyOf bus (judged .frame))) table) 16) (keyOf bus (judged .frame)) (judged .frame) h
 
 pub one-record : OneRecord
@@ -77,6 +77,11 @@ unfolding OneRecord receive concerned
 one-record format table store bus image given m i h =
     subst (λ (l : List Slot). slotAt l i ≡ slotAt table i) (ap (λ (r : After). r .station .slots) (sym m))
     (stays format table store bus i (letIn (stationOf format table) store bus image) h)
+
+pub refused-keeps : RefusedKeeps
+unfolding RefusedKeeps
+refused-keeps format table store bus image given n m e =
+    read-off format given _ (m ∙ refusals .receives (stationOf format table) store bus image n (sym (ap (λ (r : After). r .answer) m) ∙ e))
 
 -- ---- runs: a second front that meets its contract is the first
 
@@ -92,11 +97,10 @@ module _ (format : Format) (table : List Slot) (store : List ℕ) (bus : ℕ) wh
   kept-in true key frame = refl
   kept-in false key frame = refl
 
-  kept : (j : Result (Result Judged)) → judgedAs (stationOf format table) store bus j .station .format ≡ format
+  kept : (j : Result Judged) → judgedAs (stationOf format table) store bus j .station .format ≡ format
   unfolding deliver
   kept (refused n) = refl
-  kept (value (refused n)) = refl
-  kept (value (value judged)) = kept-in (ltb (place (hasKey (keyOf bus (judged .frame))) table) 16) (keyOf bus (judged .frame)) (judged .frame)
+  kept (value judged) = kept-in (ltb (place (hasKey (keyOf bus (judged .frame))) table) 16) (keyOf bus (judged .frame)) (judged .frame)
 
   same-format : (image : List ℕ) → receive (stationOf format table) store bus image .station .format ≡ format
   unfolding receive
@@ -124,24 +128,26 @@ on-table =
 
 -- ---- calls one after the other
 
-pub as-run : AsRun
-unfolding AsRun Chained ended runOn
-as-run format [] table store [] c = refl
-as-run format [] table store (given ∷ givens) c = absurd c
-as-run format (call ∷ calls) table store [] c = absurd c
-as-run format (call ∷ calls) table store (given ∷ givens) c =
-    let rest = as-run format calls (given .table) (given .store) givens (c .1) in
+chained : (format : Format) (calls : List Call) (table : List Slot) (store : List ℕ) (givens : List Given)
+    → Chained format table store calls givens → ended format table store givens ≡ run (stationOf format table) store calls
+unfolding Chained ended runOn
+chained format [] table store [] c = refl
+chained format [] table store (given ∷ givens) c = absurd c
+chained format (call ∷ calls) table store [] c = absurd c
+chained format (call ∷ calls) table store (given ∷ givens) c =
+    let rest = chained format calls (given .table) (given .store) givens (c .1) in
     let on : Ran → After → Ran = λ ran first. record { answers = first .answer ∷ ran .answers; station = ran .station; store = ran .store } in
     ap (λ (ran : Ran). on ran (afterIn format (given .answer) (given .table) (given .store))) rest
     ∙ ap (λ (first : After). on (run (first .station) (first .store) calls) first) (c .0)
 
+pub as-run : AsRun
+unfolding AsRun
+as-run format table store calls ran e = sym (chained format calls table store (e .givens) (e .chained)) ∙ e .ends
+
 pub demand3-on-calls : Demand3OnCalls
-unfolding Demand3OnCalls AsRun Demand3On
-demand3-on-calls format table store s w =
-    let of-run = demand3 (stationOf format table) store s w in (
-      λ calls givens c.
-          subst (Isolated (stationOf format table) store calls) (sym (as-run format calls table store givens c)) (of-run .0 calls),
-      λ calls others givens other-givens c d same.
-          subst₂ (Agree (stationOf format table) calls others) (sym (as-run format calls table store givens c))
-          (sym (as-run format others table store other-givens d)) (of-run .1 calls others same),
-    )
+unfolding Demand3OnCalls AsRun
+demand3-on-calls format table store s w = demand3-of (stationOf format table) store s w _ (as-run format table store)
+
+pub round-trip-on-calls : RoundTripOnCalls
+unfolding RoundTripOnCalls AsRun
+round-trip-on-calls format table store s w = round-trip-of (stationOf format table) store s w _ (as-run format table store)

@@ -8,7 +8,7 @@ use lib.ListN.{length}
 use borrow.Author.Tests.{ne-eqb}
 use Rattle.format.specs.declared.Format.{Format}
 use Rattle.format.specs.declared.Refusal.the-variants.{State}
-use Rattle.format.specs.Refusals.{refused, number, guarded}
+use Rattle.format.specs.Refusals.{refused, number, checkedThen}
 use Rattle.format.specs.Tests.{allTrue}
 use Rattle.slot.specs.declared.Slot.{Slot}
 use Rattle.slot.specs.Sound.{sound}
@@ -22,7 +22,7 @@ unsound-length format table h = rw (ne-eqb (length table) 16 h) refl
 
 pub unsound-refused : (format : Format) (table : List Slot) (store : List ℕ) (bus : ℕ) (image : List ℕ) → sound format table ≡ false
     → afterIn format (refused (number State)) table store ≡ receive (stationOf format table) store bus image
-unfolding receive guarded
+unfolding receive checkedThen
 unsound-refused format table store bus image e = rw e refl
 
 pub other-length : (format : Format) (table : List Slot) (store : List ℕ) (bus : ℕ) (image : List ℕ) → length table ≢ 16

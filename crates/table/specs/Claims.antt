@@ -1,5 +1,6 @@
 -- What is promised of the second front. Each claim is about whatever meets the contract of `table::receive`. `AsFirst`, `OneGiven`,
--- `OneRecord`, `NotSound` and `OtherLength` are of one call, `OnTable`, `AsRun` and `Demand3OnCalls` of runs. Proofs: proofs/Fronts.antt.
+-- `OneRecord`, `NotSound`, `OtherLength` and `RefusedKeeps` are of one call, `OnTable`, `AsRun`, `Demand3OnCalls` and `RoundTripOnCalls` of runs.
+-- Proofs: proofs/Fronts.antt.
 use Prim.Native.Nat.{ℕ}
 use mathlib.Core.Path.{_≡_}
 use mathlib.Core.Logic.{_≢_}
@@ -19,7 +20,7 @@ use Rattle.station.specs.declared.Received.{Received}
 use Rattle.station.specs.Stations.{stationOf, fullSize}
 use Rattle.station.specs.Receive.{receive, concerned, after}
 use Rattle.station.specs.Run.{Call, Ran, Front, run}
-use Rattle.station.specs.Demands.{Isolated, SameFrames, Agree, Demand3On, RoundTripOn}
+use Rattle.station.specs.Demands.{Demand3From, Demand3On, RoundTripFrom, RoundTripOn, leftBy}
 use Rattle.table.specs.Front.{afterIn}
 
 -- what a call gives: what its answer says, and the table and the store afterwards
@@ -69,6 +70,18 @@ NotSound = (format : Format) (table : List Slot) → sound format table ≡ fals
 unfoldable pub OtherLength : Type 0
 OtherLength = (format : Format) (table : List Slot) → length table ≢ 16 → Refuses format table
 
+-- "Nothing is written and the state handed back is the one handed in, except the idle slot after 7 and 8": of a table of any length
+unfoldable pub RefusedKeeps : Type 0
+RefusedKeeps =
+    (format : Format) (table : List Slot) (store : List ℕ) (bus : ℕ) (image : List ℕ) (given : Given) (n : ℕ)
+    → Meets format table store bus image given → given .answer ≡ refused n
+    → given
+    ≡ record {
+      answer = refused n;
+      table = leftBy n (stationOf format table) (concerned (stationOf format table) store bus image) .slots;
+      store = store;
+    }
+
 -- ---- runs
 
 -- what calls of the second front give, each for its arguments
@@ -113,18 +126,25 @@ ended format table store (given ∷ givens) =
     let rest = ended format (given .table) (given .store) givens in
     record { answers = given .answer ∷ rest .answers; station = rest .station; store = rest .store }
 
--- they are those of the run on the first front
+-- calls that end so
+pub record CallsEnd (format : Format) (table : List Slot) (store : List ℕ) (calls : List Call) (ran : Ran) : Type 0 where
+  pub givens : List Given
+  pub chained : Chained format table store calls givens
+  pub ends : ended format table store givens ≡ ran
+
+-- they end as the run on the first front does
 unfoldable pub AsRun : Type 0
 AsRun =
-    (format : Format) (calls : List Call) (table : List Slot) (store : List ℕ) (givens : List Given)
-    → Chained format table store calls givens → ended format table store givens ≡ run (stationOf format table) store calls
+    (format : Format) (table : List Slot) (store : List ℕ) (calls : List Call) (ran : Ran) → CallsEnd format table store calls ran
+    → run (stationOf format table) store calls ≡ ran
 
--- so demand 3 holds of such calls, for every sound table and full-size store
+-- so demand 3, and the last sentence of demand 2, hold of such calls, for every sound table and full-size store
 unfoldable pub Demand3OnCalls : Type 0
 Demand3OnCalls =
     (format : Format) (table : List Slot) (store : List ℕ) → sound format table ≡ true → fullSize store ≡ true
-    → ((calls : List Call) (givens : List Given) → Chained format table store calls givens
-    → Isolated (stationOf format table) store calls (ended format table store givens))
-    × ((calls others : List Call) (givens otherGivens : List Given)
-    → Chained format table store calls givens → Chained format table store others otherGivens → SameFrames (stationOf format table) calls others
-    → Agree (stationOf format table) calls others (ended format table store givens) (ended format table store otherGivens))
+    → Demand3From (stationOf format table) store (CallsEnd format table store)
+
+unfoldable pub RoundTripOnCalls : Type 0
+RoundTripOnCalls =
+    (format : Format) (table : List Slot) (store : List ℕ) → sound format table ≡ true → fullSize store ≡ true
+    → RoundTripFrom (stationOf format table) store (CallsEnd format table store)

@@ -4,7 +4,8 @@ use native.Mathlib.Omega.{arith}
 use borrow.Author.Tests.{not-true, not-false, eq-eqb, ne-eqb}
 use mathlib.Core.Path.{refl}
 use Rattle.stream.specs.declared.Progress.{Progress}
-use Rattle.station.specs.Read.{isDone, held}
+use Rattle.stream.specs.Step.{held}
+use Rattle.station.specs.Read.{isDone}
 use Rattle.format.specs.Refusals.{value}
 use Prim.Native.Nat.{ℕ}
 use Rattle.station_bytes.proofs.Calling.{sound-of, state-size}
