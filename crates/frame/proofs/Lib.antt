@@ -1,4 +1,5 @@
 pub mod Flags
 mod JudgeLaws
 pub mod Images
+pub mod Judged
 mod Verdicts

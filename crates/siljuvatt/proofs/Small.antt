@@ -21,9 +21,9 @@ use Rattle.format.specs.Tests.{allTrue, allAfter}
 use Rattle.format.proofs.Checks.{Passed, passed}
 use Rattle.format.proofs.Limits.{five-bytes, most-bytes}
 use Rattle.format.proofs.Tests.{each, tests}
-use Rattle.frame.specs.Layout.{layout}
-use Rattle.frame.specs.Judge.{Frame, Judged, checks, readBy, judge}
+use Rattle.frame.specs.Judge.{Frame, Judged, judge}
 use Rattle.frame.specs.Image.{imageOf}
+use Rattle.frame.proofs.Judged.{sound-image, by-judging}
 use Rattle.packet.specs.Split.{countOf, piece, pieces}
 use Rattle.packet.specs.Send.{pieceCount, send, answer}
 use Rattle.packet.specs.Claims.{Splitting, IsSplit}
@@ -127,14 +127,10 @@ module _ (fs : Fields) (bytes : List ℕ) (range : inRange fs ≡ true) (small :
   few = omega (arith, as-counted, split .few)
 
   image-small : (k : ℕ) → k < countOf (pieceSize (formatOf fs)) (length bytes) → length (imageOf (piece fs bytes k)) ≤ 13
-  unfolding judge checks
   image-small k h =
       let fm = formatOf fs in
-      let image = imageOf (piece fs bytes k) in
-      let j = split .judged k (omega (arith, as-counted)) in
-      let p = passed (checks fm (length image) (layout fm image)) (readBy (layout fm image) image) _ j in
-      let t = each _ (p .0 .0) in
-      omega (tests, t .1 .0, five-bytes fm)
+      let sound = sound-image fm (imageOf (piece fs bytes k)) _ (split .judged k (omega (arith, as-counted))) in
+      omega (arith, sound .size, sound .few, five-bytes fm)
 
 counted : (fs : Fields) → inRange fs ≡ true → (n : ℕ) → UpTo 256 (pieceCount (formatOf fs) n)
 unfolding pieceCount
@@ -236,10 +232,8 @@ judged-small station store bus (value (refused n)) h = h
 judged-small station store bus (value (value judged)) c = deliver-small station store _ (judged .frame) c
 
 judge-within : (format : Format) (image : List ℕ) → Within (λ j. Carrying format (j .frame)) (judge format image)
-unfolding judge
 judge-within format image =
-    within (λ (j : Judged). Carrying format (j .frame)) (checks format (length image) (layout format image)) (readBy (layout format image) image)
-    (λ p. judged-carries format image _ (all-passed _ _ p))
+    by-judging (Within (λ (j : Judged). Carrying format (j .frame))) format image (judged-carries format image) (λ n r. omega (arith, r .least, r .last))
 
 receive-small : (station : Station) (store : List ℕ) (bus : ℕ) (image : List ℕ) → Receives (receive station store bus image)
 unfolding receive
