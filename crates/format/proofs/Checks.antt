@@ -1,6 +1,6 @@
 -- A list of checks, one after the other.
 use Prim.Native.Nat.{ℕ}
-use mathlib.Core.Path.{_≡_, refl}
+use mathlib.Core.Path.{_≡_, refl, subst}
 use native.Mathlib.Omega.{arith}
 use mathlib.Core.Bool.{Bool, true, false}
 use mathlib.Core.List.{List, [], _∷_}
@@ -33,6 +33,17 @@ unfolding guarded
 passed [] x y e = (tt, (cc))
 passed (check name true ∷ rest) x y e = let r = passed rest x y e in ((refl, r .0), r .1)
 passed (check name false ∷ rest) x y e = let z : _≡_ {A = ℕ} 0 1 = cc in absurd (omega arith)
+
+-- where a refusal comes out, its number is that of one of the checks
+abbrev pub EachNumber : (ℕ → Type 0) → List Check → Type 0
+EachNumber P [] = Unit {0}
+EachNumber P (check name ok ∷ rest) = P (number name) × EachNumber P rest
+
+pub refused-by : {A : Type 0} (P : ℕ → Type 0) (checks : List Check) → EachNumber P checks → (x : A) (n : ℕ) → guarded checks x ≡ refused n → P n
+unfolding guarded
+refused-by P [] h x n e = let z : _≡_ {A = ℕ} 0 1 = cc in absurd (omega arith)
+refused-by P (check name true ∷ rest) h x n e = refused-by P rest (h .1) x n e
+refused-by P (check name false ∷ rest) h x n e = let z : number name ≡ n = cc in subst P z (h .0)
 
 -- the same before a result of its own
 pub stop-then : {A : Type 0} (name : Refusal) (rest : List Check) (r : Result A) {ok : Bool} → ok ≡ false

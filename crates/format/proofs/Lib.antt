@@ -2,3 +2,5 @@ pub mod Tests
 pub mod Checks
 pub mod Limits
 pub mod Numbers
+pub mod Tables
+mod Bounds

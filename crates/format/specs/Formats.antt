@@ -55,7 +55,8 @@ numbered Standard Single = false
 abbrev pub packetStart : Format → Flag → ℕ
 packetStart format flag = cond (numbered format flag) (headerSize format + 1) (headerSize format)
 
--- the format of fields, and whether each is in its range
+-- the format of fields, and whether each is in its range. A standard frame's side says who sent it: 0 the master,
+-- 1 a slave (source Table 6)
 abbrev pub formatOf : Fields → Format
 formatOf (fields.Extended priority source group destination function) = Extended
 formatOf (fields.Standard priority address side) = Standard

@@ -3,6 +3,8 @@
 ghost use mathlib.Core.Path.{_≡_};
 ghost use Rattle.format.specs.Formats.{packetLimit, pieceSize, headerSize, numberRange, flagBits, numbered, packetStart, formatOf, inRange};
 ghost use Rattle.format.specs.Refusals.{number};
+ghost use Rattle.format.specs.Claims.{OneNumber, OneMeaning};
+ghost use Rattle.format.specs.Bounds.{FormatBounds};
 
 // The extended format, with 29-bit identifiers.
 pub struct Extended;
@@ -114,6 +116,7 @@ pub enum Fields {
     Standard {
         priority: u8,
         address: u8,
+        // Who sent the frame: 0 the master, 1 a slave.
         side: u8,
     },
 }
@@ -246,3 +249,10 @@ pub enum Outcome {
     Value(usize),
     Refused(Refusal),
 }
+
+// The claims of this crate. It does nothing: its contract ties each claim to its proof.
+pub fn promised()
+    ensures one_number { λ _. ⌜ OneNumber ⌝ }
+    ensures one_meaning { λ _. ⌜ OneMeaning ⌝ }
+    ensures format_bounds { λ _. ⌜ FormatBounds ⌝ }
+{}

@@ -20,7 +20,8 @@ flagOf bits =
 
 -- Extended: byte 0: 1, RTR, 0, 0, count (4 bits); byte 1: priority (2), source (6); byte 2: group (2), destination (6);
 -- byte 3: flag (2), number (6); byte 4: function (5), 000; then the data bytes.
--- Standard: byte 0: priority (2), address (6); byte 1: side (1), flag (2), RTR, count (4); then data.
+-- Standard: byte 0: priority (2), address (6); byte 1: side (1), flag (2), RTR, count (4); then data. The side is 0 in a frame that the
+-- master sent and 1 in one that a slave sent.
 -- `fixed` says whether the fixed bits are right. A standard single has no number, for which 0 stands.
 unfoldable pub layout : Format → List ℕ → Layout
 layout Extended image =

@@ -10,6 +10,8 @@ ghost use lib.ListN.{length, getD};
 ghost use Rattle.format.specs.Formats.{headerSize};
 ghost use Rattle.frame.specs.Layout.{flagOf, layout};
 ghost use Rattle.frame.specs.Judge.{pieceRule, judge, meaning};
+ghost use Rattle.frame.specs.Claims.{ImageIsJudged, JudgedIsImage, OneImage, OneVerdict};
+ghost use Rattle.frame.specs.Bounds.{JudgingBounds};
 
 // What stands in the bits of an image, right or wrong.
 struct Layout {
@@ -213,3 +215,12 @@ pub fn judge(format: Format, image: &[u8]) -> Verdict
     };
     Verdict::Sound(head)
 }
+
+// The claims of this crate. It does nothing: its contract ties each claim to its proof.
+pub fn promised()
+    ensures image_is_judged { λ _. ⌜ ImageIsJudged ⌝ }
+    ensures judged_is_image { λ _. ⌜ JudgedIsImage ⌝ }
+    ensures one_image { λ _. ⌜ OneImage ⌝ }
+    ensures one_verdict { λ _. ⌜ OneVerdict ⌝ }
+    ensures judging_bounds { λ _. ⌜ JudgingBounds ⌝ }
+{}

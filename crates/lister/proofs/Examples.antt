@@ -2,11 +2,11 @@
 use mathlib.Core.Path.{refl}
 use Rattle.format.specs.Tests.{allTrue, allAfter}
 use Rattle.format.specs.Formats.{inRange}
-use Rattle.format.specs.Refusals.{guarded}
+use Rattle.format.specs.Refusals.{guarded, checkedThen}
 use Rattle.copying.specs.Copy.{written}
 use Rattle.frame.specs.Layout.{flagOf, layout}
 use Rattle.frame.specs.Judge.{pieceRule, checks, judge}
-use Rattle.stream.specs.Step.{appended, followed, stepped, step}
+use Rattle.stream.specs.Step.{follows, progressAfter, followed, stepped, step}
 use Rattle.slot.specs.Slots.{sameFields, sameKey, place}
 use Rattle.slot.specs.Sound.{keyInRange, fits, slotSound, slotsSound, any, keysDiffer, sound}
 use Rattle.station.specs.Stations.{area, withArea}
@@ -23,5 +23,5 @@ unfolding EmptyInput program listed recordAt headerLine countLine field decimal 
 empty-input = refl
 
 pub example : Example
-unfolding Example program listed listedOne heard recordAt allTrue allAfter inRange guarded written flagOf layout pieceRule checks judge appended followed stepped step sameFields sameKey place keyInRange fits slotSound slotsSound any keysDiffer sound area withArea stepAt deliver receive opening digits decimal field fields headerLine frameLine refusedLine stoppedLine countLine
+unfolding Example program listed listedOne heard recordAt allTrue allAfter inRange guarded checkedThen written flagOf layout pieceRule checks judge follows progressAfter followed stepped step sameFields sameKey place keyInRange fits slotSound slotsSound any keysDiffer sound area withArea stepAt deliver receive opening digits decimal field fields headerLine frameLine refusedLine stoppedLine countLine
 example = refl

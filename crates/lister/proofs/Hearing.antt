@@ -40,7 +40,7 @@ use Rattle.station.specs.Open.{StationAfter, opening}
 use Rattle.station.specs.Parts.{frameOf, Steps}
 use Rattle.station.proofs.Calls.{good, is-found}
 use Rattle.station.proofs.Soundness.{met}
-use Rattle.station.proofs.Steps.{judged-start}
+use Rattle.frame.proofs.Judged.{sound-image}
 use Rattle.station.proofs.Turning.{turnOf, names-first, at-none, at-slot}
 use Rattle.station.proofs.Handing.{open-taken, open-full, open-lowest}
 use Rattle.trace.specs.declared.Line.the-variants as line
@@ -150,8 +150,8 @@ pub heads : (image : List ℕ) → Bytes image → (v : Verdict) (head : Head) �
     → Heads head image
 heads image bytes v head e ev =
     let j = ap (λ (x : Verdict). verdicts.meaning x image) (sym ev) ∙ e in
-    let n = judged-start Extended image (record { frame = frameOf head image; start = head .start }) (sym j) in
-    record { judged = j; bytes = bytes; start = n .0; most = n .1 }
+    let n = sound-image Extended image (record { frame = frameOf head image; start = head .start }) (sym j) in
+    record { judged = j; bytes = bytes; start = n .starts; most = n .most }
 
 module _ (slots : List Slot) (store : List ℕ) (ordinal bus : ℕ) (image : List ℕ) (s : sound Extended slots ≡ true) (w : length store ≡ 32768) (b : bus ≤ 1) where
   pub tells-refused : (v : Verdict) (own : Refusal) → verdicts.meaning v image ≡ judge Extended image → v ≡ verdict.Refused own

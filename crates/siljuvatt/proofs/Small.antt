@@ -16,30 +16,31 @@ use Rattle.format.specs.declared.Flag.the-variants.{Middle, Start, End, Single}
 use Rattle.format.specs.declared.Refusal.{Refusal}
 use Rattle.format.specs.declared.Refusal.the-variants.{Length, Form, Remote, Count, Piece, Orphan, Step, Long, Field, Size, Index, Room, Store, Taken, Full, Closed, NoPacket, Busy, Idle, NotAwaited, State}
 use Rattle.format.specs.Formats.{packetLimit, pieceSize, formatOf, inRange}
-use Rattle.format.specs.Refusals.{Result, value, refused, number, Check, check, guarded}
+use Rattle.format.specs.Refusals.{Result, value, refused, number, Check, check, guarded, checkedThen}
 use Rattle.format.specs.Tests.{allTrue, allAfter}
 use Rattle.format.proofs.Checks.{Passed, passed}
 use Rattle.format.proofs.Limits.{five-bytes, most-bytes}
 use Rattle.format.proofs.Tests.{each, tests}
-use Rattle.frame.specs.Layout.{layout}
-use Rattle.frame.specs.Judge.{Frame, Judged, checks, readBy, judge}
+use Rattle.frame.specs.Judge.{Frame, Judged, judge}
 use Rattle.frame.specs.Image.{imageOf}
+use Rattle.frame.proofs.Judged.{sound-image, by-judging}
 use Rattle.packet.specs.Split.{countOf, piece, pieces}
 use Rattle.packet.specs.Send.{pieceCount, send, answer}
 use Rattle.packet.specs.Claims.{Splitting, IsSplit}
 use Rattle.packet.proofs.Pieces.{splitting}
 use Rattle.stream.specs.declared.Progress.{Progress}
 use Rattle.stream.specs.declared.Progress.the-variants as progress
-use Rattle.stream.specs.Step.{step, stepped, followed, appended}
+use Rattle.stream.specs.Step.{Next, step, stepped, followed, appended}
+use Rattle.stream.proofs.Cases.{while-idle, while-done, while-collecting}
 use Rattle.slot.specs.declared.Key.{Key}
-use Rattle.slot.specs.Slots.{closedSlot, openSlot, hasKey, place}
+use Rattle.slot.specs.Slots.{closedSlot, openSlot, isClosed, hasKey, place}
 use Rattle.slot.specs.Sound.{fits}
 use Rattle.filter.specs.Filters.{eitherAccepts, rowPair}
 use Rattle.station.specs.declared.Station.{Station}
 use Rattle.station.specs.Receive.{After, judgedAs, letIn, stepAt, deliver, receive}
 use Rattle.station.specs.Open as handing
 use Rattle.station.specs.Read.{reading, lengthOf}
-use Rattle.station.proofs.Handing.{has-length, open-below}
+use Rattle.station.proofs.Handing.{within-sixteen, has-length, open-below}
 use Rattle.station.proofs.Steps.{Carrying, judged-carries, keeps}
 use Rattle.station_bytes.specs.States.{stationIn, isState}
 use Rattle.station_bytes.specs.Calls.{StateAfter, BytesAfter, renewed, receiveIn, openIn, closeIn, readIn}
@@ -95,6 +96,13 @@ by-checks P (check name false ∷ rest) x give refuse = refuse name
 within : {A : Type 0} (Holds : A → Type 0) (list : List Check) (x : A) → (Passed list → Holds x) → Within Holds (guarded list x)
 within Holds list x give = by-checks (Within Holds) list x give a-refusal
 
+-- the same before a result of its own
+then-within : {A : Type 0} (Holds : A → Type 0) (list : List Check) (r : Result A) → Within Holds r → Within Holds (checkedThen list r)
+unfolding checkedThen
+then-within Holds [] r h = h
+then-within Holds (check name true ∷ rest) r h = then-within Holds rest r h
+then-within Holds (check name false ∷ rest) r h = a-refusal name
+
 -- either of two
 either : {A : Type 0} (P : A → Type 0) (b : Bool) (x y : A) → P x → P y → P (cond b x y)
 either P true x y h k = h
@@ -127,14 +135,10 @@ module _ (fs : Fields) (bytes : List ℕ) (range : inRange fs ≡ true) (small :
   few = omega (arith, as-counted, split .few)
 
   image-small : (k : ℕ) → k < countOf (pieceSize (formatOf fs)) (length bytes) → length (imageOf (piece fs bytes k)) ≤ 13
-  unfolding judge checks
   image-small k h =
       let fm = formatOf fs in
-      let image = imageOf (piece fs bytes k) in
-      let j = split .judged k (omega (arith, as-counted)) in
-      let p = passed (checks fm (length image) (layout fm image)) (readBy (layout fm image) image) _ j in
-      let t = each _ (p .0 .0) in
-      omega (tests, t .1 .0, five-bytes fm)
+      let sound = sound-image fm (imageOf (piece fs bytes k)) _ (split .judged k (omega (arith, as-counted))) in
+      omega (arith, sound .size, sound .few, five-bytes fm)
 
 counted : (fs : Fields) → inRange fs ≡ true → (n : ℕ) → UpTo 256 (pieceCount (formatOf fs) n)
 unfolding pieceCount
@@ -177,7 +181,8 @@ opens : (state : List ℕ) (key : Key) → UpTo 15 (openIn state key .answer)
 unfolding openIn handing.opening
 opens state key =
     either (Hands 15) (isState state) _ _
-    (by-checks (λ r. UpTo 15 (handing.changedAt (stationIn state) (openSlot key progress.Idle) r .answer)) _ _ (λ p. omega (tests, p .1 .1 .1 .0)) a-refusal)
+    (by-checks (λ r. UpTo 15 (handing.changedAt (stationIn state) (openSlot key progress.Idle) r .answer)) _ _
+    (λ p. omega (arith, within-sixteen (stationIn state .format) (stationIn state .slots) isClosed (p .0) (p .1 .1 .1 .0))) a-refusal)
     (a-refusal State)
 
 closes : (state : List ℕ) (slot : ℕ) → UpTo 15 (closeIn state slot .answer)
@@ -189,20 +194,19 @@ closes state slot =
     (a-refusal State)
 
 -- the answer of a step: a single has as many bytes as a stream that fits, and a longer packet has been measured
-appended-small : (last : Bool) (h : ℕ) (area bytes : List ℕ) (a w : Bool) → leb (h + length bytes) 2048 ≡ w
-    → Within (LengthUpTo 2048) (appended last h area bytes a w .answer)
-unfolding appended
-appended-small last h area bytes false w e = a-refusal Step
-appended-small last h area bytes true false e = a-refusal Long
-appended-small false h area bytes true true e = tt
-appended-small true h area bytes true true e = leb-true _ _ e
+appended-small : (last : Bool) (h : ℕ) (area bytes : List ℕ) → leb (h + length bytes) 2048 ≡ true
+    → Within (LengthUpTo 2048) (appended last h area bytes .answer)
+appended-small false h area bytes e = tt
+appended-small true h area bytes e = leb-true _ _ e
 
-followed-small : (z m : ℕ) (last : Bool) (p : Progress) (area : List ℕ) (n : ℕ) (bytes : List ℕ)
-    → Within (LengthUpTo 2048) (followed z m last p area n bytes .answer)
-unfolding followed
-followed-small z m last progress.Idle area n bytes = a-refusal Orphan
-followed-small z m last (progress.Done h) area n bytes = a-refusal Orphan
-followed-small z m last (progress.Collecting h) area n bytes = appended-small last h area bytes _ _ refl
+abbrev Steps : Next → Type 0
+Steps next = Within (LengthUpTo 2048) (next .answer)
+
+followed-small : (z m : ℕ) (last : Bool) (p : Progress) (area : List ℕ) (n : ℕ) (bytes : List ℕ) → Steps (followed z m last p area n bytes)
+followed-small z m last progress.Idle area n bytes = while-idle Steps z m last area n bytes (a-refusal Orphan)
+followed-small z m last (progress.Done h) area n bytes = while-done Steps z m last area n bytes h (a-refusal Orphan)
+followed-small z m last (progress.Collecting h) area n bytes =
+    while-collecting Steps z m last area n bytes h (λ a. a-refusal Step) (λ a w. a-refusal Long) (λ a w. appended-small last h area bytes w)
 
 stepped-small : (format : Format) (z m : ℕ) (flag : Flag) (p : Progress) (area other : List ℕ) (n : ℕ) (bytes : List ℕ)
     → fits format (stepped z m progress.Idle other flag n bytes .progress) ≡ true
@@ -229,23 +233,20 @@ unfolding deliver stepAt
 deliver-small station store key frame c =
     either Receives (ltb (place (hasKey key) (station .slots)) 16) _ _ (step-small (station .format) _ _ frame c) tt
 
-judged-small : (station : Station) (store : List ℕ) (bus : ℕ) (r : Result (Result Judged))
-    → Within (Within (λ j. Carrying (station .format) (j .frame))) r → Receives (judgedAs station store bus r)
+judged-small : (station : Station) (store : List ℕ) (bus : ℕ) (r : Result Judged)
+    → Within (λ j. Carrying (station .format) (j .frame)) r → Receives (judgedAs station store bus r)
 judged-small station store bus (refused n) h = h
-judged-small station store bus (value (refused n)) h = h
-judged-small station store bus (value (value judged)) c = deliver-small station store _ (judged .frame) c
+judged-small station store bus (value judged) c = deliver-small station store _ (judged .frame) c
 
 judge-within : (format : Format) (image : List ℕ) → Within (λ j. Carrying format (j .frame)) (judge format image)
-unfolding judge
 judge-within format image =
-    within (λ (j : Judged). Carrying format (j .frame)) (checks format (length image) (layout format image)) (readBy (layout format image) image)
-    (λ p. judged-carries format image _ (all-passed _ _ p))
+    by-judging (Within (λ (j : Judged). Carrying format (j .frame))) format image (judged-carries format image) (λ n r. omega (arith, r .least, r .last))
 
 receive-small : (station : Station) (store : List ℕ) (bus : ℕ) (image : List ℕ) → Receives (receive station store bus image)
 unfolding receive
 receive-small station store bus image =
     judged-small station store bus (letIn station store bus image)
-    (within (Within (λ (j : Judged). Carrying (station .format) (j .frame))) _ _ (λ p. judge-within (station .format) image))
+    (then-within _ _ _ (then-within _ _ _ (judge-within (station .format) image)))
 
 receives : (state store : List ℕ) (bus : ℕ) (image : List ℕ) → Within (LengthUpTo 2048) (receiveIn state store bus image .answer)
 unfolding receiveIn

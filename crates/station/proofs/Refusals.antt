@@ -18,6 +18,7 @@ use Rattle.format.specs.Refusals.{Result, value, refused, number, check, guarde
 use Rattle.format.proofs.Checks.{passed-then}
 use Rattle.format.proofs.Tests.{each}
 use Rattle.frame.specs.Judge.{Frame, Judged, judge}
+use Rattle.frame.proofs.Judged.{judging-refusal}
 use Rattle.stream.specs.declared.Progress.{Progress}
 use Rattle.stream.specs.declared.Progress.the-variants.{Idle, Collecting, Done}
 use Rattle.stream.specs.Answers.{Reply, filtered}
@@ -36,7 +37,7 @@ use Rattle.station.specs.declared.Station.{Station}
 use Rattle.station.specs.Stations.{soundStation, fullSize, withSlots, area, withArea}
 use Rattle.station.specs.Receive.{After, unchanged, keyOf, progressOf, stepAt, deliver, judgedAs, examined, letIn, receive, concernedBy, concerned}
 use Rattle.station.specs.Open.{StationAfter, changedAt, opening, closing}
-use Rattle.station.proofs.Soundness.{openChecks, closeChecks, judge-under}
+use Rattle.station.proofs.Soundness.{openChecks, closeChecks}
 use Rattle.station.specs.Demands.{idled, leftBy, RefusedKeeps}
 
 -- ---- a step
@@ -139,7 +140,7 @@ let-in-refused station store bus image n e = go (soundStation station) (fullSize
     go false w b e = other 21 (cc) refl
     go true false b e = other 13 (cc) refl
     go true true false e = other 9 (cc) refl
-    go true true true e = small (judge-under (station .format) image n e)
+    go true true true e = small (judging-refusal (station .format) image n e .last)
 
 module _ (station : Station) (store : List ℕ) (sixteen : length (station .slots) ≡ 16) (key : Key) (frame : Frame) where
   at-deliver : Kept station store (place (hasKey key) (station .slots)) (deliver station store key frame)

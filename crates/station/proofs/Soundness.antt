@@ -16,8 +16,8 @@ use Rattle.format.specs.Refusals.{Result, value, refused, Check, check, guarded
 use Rattle.format.specs.Tests.{allTrue, allAfter}
 use Rattle.format.proofs.Tests.{each, from-each}
 use Rattle.format.proofs.Checks.{passed, pass, none-left}
-use Rattle.frame.specs.Layout.{layout}
-use Rattle.frame.specs.Judge.{Frame, Judged, checks, readBy, judge}
+use Rattle.frame.specs.Judge.{Frame, Judged, judge}
+use Rattle.frame.proofs.Judged.{judging-refusal}
 use Rattle.stream.specs.declared.Progress.the-variants.{Idle}
 use Rattle.stream.specs.Answers.{Reply, filtered}
 use Rattle.stream.specs.Step.{step}
@@ -126,29 +126,12 @@ stays = record { opens = opened-keeps; closes = closed-keeps; receives = receive
 
 -- ---- LONG
 
--- every check of the list refuses with a number up to k
-abbrev Under : ℕ → List Check → Type 0
-Under k [] = Unit {0}
-Under k (check name ok ∷ rest) = (number name ≤ k) × Under k rest
-
-refused-under : {A : Type 0} (k : ℕ) (cs : List Check) → Under k cs → (x : A) (n : ℕ) → guarded cs x ≡ refused n → n ≤ k
-unfolding guarded
-refused-under k [] u x n e = let z : _≡_ {A = ℕ} 0 1 = cc in absurd (omega arith)
-refused-under k (check name true ∷ rest) u x n e = refused-under k rest (u .1) x n e
-refused-under k (check name false ∷ rest) u x n e = let z : number name ≡ n = cc in omega (arith, u .0, z)
-
-pub judge-under : (format : Format) (image : List ℕ) (n : ℕ) → judge format image ≡ refused n → n ≤ 5
-unfolding judge checks
-judge-under format image n e =
-    refused-under 5 (checks format (length image) (layout format image)) (omega arith, (omega arith, (omega arith, (omega arith, (omega arith, tt)))))
-    (readBy (layout format image) image) n e
-
 examined-under : (format : Format) (bus : ℕ) (image : List ℕ) (n : ℕ) → examined format bus image ≡ refused n → n ≢ 8
 unfolding checkedThen
 examined-under format bus image n e = go (leb bus 1) e
   where
     go : (b : Bool) → cond b (judge format image) (refused (number refusal.Field)) ≡ refused n → n ≢ 8
-    go true e = λ q. omega (arith, q, judge-under format image n e)
+    go true e = λ q. omega (arith, q, judging-refusal format image n e .last)
     go false e = let z : _≡_ {A = ℕ} 9 n = cc in λ q. omega (arith, q, z)
 
 NotLong : After → Type 0

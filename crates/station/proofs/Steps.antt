@@ -6,8 +6,8 @@ use mathlib.Core.Bool.{Bool, true, false, cond}
 use mathlib.Core.List.{List}
 use native.Mathlib.Omega.{arith}
 use lib.Dec.{leb, eqb}
-use lib.ListN.{length, drop, length-drop}
-use borrow.Author.Tests.{leb-true, eqb-true, le-leb}
+use lib.ListN.{length}
+use borrow.Author.Tests.{leb-true, le-leb}
 use Rattle.copying.proofs.Copying.{written-length}
 use Rattle.format.specs.declared.Format.{Format}
 use Rattle.format.specs.declared.Format.the-variants.{Extended, Standard}
@@ -17,9 +17,9 @@ use Rattle.format.specs.declared.Refusal.the-variants as refusal
 use Rattle.format.specs.Formats.{pieceSize, numberRange, headerSize, packetStart}
 use Rattle.format.specs.Refusals.{value, refused, number}
 use Rattle.format.proofs.Tests.{each, from-each, tests}
-use Rattle.format.proofs.Checks.{passed}
 use Rattle.frame.specs.Layout.{layout}
-use Rattle.frame.specs.Judge.{Frame, Judged, pieceRule, checks, readBy, judge}
+use Rattle.frame.specs.Judge.{Frame, Judged, pieceRule, judge}
+use Rattle.frame.proofs.Judged.{sound-image}
 use Rattle.stream.specs.declared.Progress.{Progress}
 use Rattle.stream.specs.declared.Progress.the-variants.{Idle, Collecting, Done}
 use Rattle.stream.specs.Step.{Next, awaited, appended, followed, stepped, step}
@@ -47,52 +47,15 @@ carries Standard Start count n size r e = let u = each _ r in omega tests
 carries Standard Middle count n size r e = let u = each _ r in omega tests
 carries Standard End count n size r e = let u = each _ r in omega tests
 
-start-is : (format : Format) (image : List ℕ) → layout format image .start ≡ packetStart format (layout format image .flag)
-unfolding layout
-start-is Extended image = refl
-start-is Standard image = refl
-
 pub Carrying : Format → Frame → Type 0
 Carrying format frame = Carries format (frame .flag) (frame .number) (length (frame .bytes))
 
-of-layout : (format : Format) (image : List ℕ) (start : ℕ) → start ≡ packetStart format (layout format image .flag)
-    → pieceRule format (layout format image .flag) (layout format image .count) (layout format image .number) ≡ true
-    → length image ≡ headerSize format + layout format image .count
-    → Carries format (layout format image .flag) (layout format image .number) (length (drop start image))
-of-layout format image start e r c =
-    rw (length-drop, e) (carries format (layout format image .flag) (layout format image .count) (layout format image .number) (length image) r c)
-
 pub judged-carries : (format : Format) (image : List ℕ) (judged : Judged) → judge format image ≡ value judged → Carrying format (judged .frame)
-unfolding judge checks Carrying
+unfolding Carrying
 judged-carries format image judged e =
-    let said = layout format image in
-    let p = passed (checks format (length image) said) (readBy said image) judged e in
-    let t = each _ (p .0 .1 .1 .1 .0) in
-    rw (sym (p .1))
-    (of-layout format image (said .start) (start-is format image) (p .0 .1 .1 .1 .1 .0) (eqb-true _ _ (t .1 .0)))
-
--- where the packet bytes of a sound image begin, and how many there are at most
-start-near : (format : Format) (flag : Flag) (count n size : ℕ) → pieceRule format flag count n ≡ true → size ≡ headerSize format + count
-    → (packetStart format flag ≤ size) × (size - packetStart format flag ≤ 8)
-unfolding pieceRule
-start-near Extended Single count n size r e = let u = each _ r in (omega tests, omega tests)
-start-near Extended Start count n size r e = let u = each _ r in (omega tests, omega tests)
-start-near Extended Middle count n size r e = (omega tests, omega tests)
-start-near Extended End count n size r e = let u = each _ r in (omega tests, omega tests)
-start-near Standard Single count n size r e = let u = each _ r in (omega tests, omega tests)
-start-near Standard Start count n size r e = let u = each _ r in (omega tests, omega tests)
-start-near Standard Middle count n size r e = let u = each _ r in (omega tests, omega tests)
-start-near Standard End count n size r e = let u = each _ r in (omega tests, omega tests)
-
-pub judged-start : (format : Format) (image : List ℕ) (judged : Judged) → judge format image ≡ value judged
-    → (judged .start ≤ length image) × (length image - judged .start ≤ 8)
-unfolding judge checks
-judged-start format image judged e =
-    let said = layout format image in
-    let p = passed (checks format (length image) said) (readBy said image) judged e in
-    let t = each _ (p .0 .1 .1 .1 .0) in
-    let n = start-near format (said .flag) (said .count) (said .number) (length image) (p .0 .1 .1 .1 .1 .0) (eqb-true _ _ (t .1 .0)) in
-    rw (sym (p .1), start-is format image) n
+    let i = sound-image format image judged e in
+    rw (i .carried, i .start-is)
+    (carries format (judged .frame .flag) (layout format image .count) (judged .frame .number) (length image) (i .rule) (i .size))
 
 -- ---- a step keeps both
 

@@ -22,6 +22,7 @@ use Rattle.frame.specs.declared.Head.{Head}
 use Rattle.frame.specs.declared.Verdict.{Verdict}
 use Rattle.frame.specs.declared.Verdict.the-variants as verdict
 use Rattle.frame.specs.Judge as verdicts
+use Rattle.frame.proofs.Judged.{sound-image}
 use Rattle.frame.specs.Judge.{Frame, Judged, judge}
 use Rattle.stream.specs.declared.Answer.{Answer}
 use Rattle.stream.specs.declared.Answer.the-variants.{Refused, Filtered}
@@ -39,7 +40,6 @@ use Rattle.station.specs.Stations.{stationOf, area, withArea}
 use Rattle.station.specs.Receive.{After, unchanged, keyOf, progressOf, stepAt, deliver, judgedAs, receive, concernedBy, concerned, afterTurn}
 use Rattle.station.specs.Parts.{refusedAs, frameOf, Steps}
 use Rattle.station.proofs.Areas.{area-length}
-use Rattle.station.proofs.Steps.{judged-start}
 
 abbrev pub turnOf : ℕ → Slot → Answer → Turn
 turnOf at slot answer = record { at = at; slot = slot; answer = answer }
@@ -230,5 +230,5 @@ pub found : (format : Format) (slots : List Slot) (bus : ℕ) (image : List ℕ)
 found format slots bus image head i v o e ev es ei =
     let j = ap (λ (v : Verdict). verdicts.meaning v image) (sym ev) ∙ e in
     let t = sought-at format slots (keyOf bus (frameOf head image)) i (sym es ∙ ap answers.meaning ei) in
-    let n = judged-start format image (record { frame = frameOf head image; start = head .start }) (sym j) in
-    record { ok = t .0; placed = t .1; judged = j; start = n .0; bytes = n .1 }
+    let n = sound-image format image (record { frame = frameOf head image; start = head .start }) (sym j) in
+    record { ok = t .0; placed = t .1; judged = j; start = n .starts; bytes = n .most }

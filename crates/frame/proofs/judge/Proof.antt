@@ -69,7 +69,7 @@ returns-6 c =
     let c11 = c9 .before .before in
     let a = c11 .args in
     other-count (a .format) (a .image .now) _ (c6 .layout-of .ensures) _ (c9 .header-size .ensures) (omega arith)
-    (omega arith) (c4 .if3 .left) (c3 .if4 .left) (omega arith) _ (c1 .wide .ensures) (c .if6 .taken)
+    (omega arith) (c4 .if3 .left) (c3 .if4 .left) (omega arith) _ (c1 .wide .ensures) (λ q. omega arith)
 
 piece-rule-requires : tie.Need-piece-rule-requires
 piece-rule-requires c κs = search needs
@@ -86,7 +86,7 @@ returns-7 c =
     let c13 = c11 .before .before in
     let a = c13 .args in
     unruled (a .format) (a .image .now) _ (c8 .layout-of .ensures) _ (c11 .header-size .ensures) (omega arith)
-    (omega arith) (c6 .if3 .left) (c5 .if4 .left) (omega arith) _ (c3 .wide .ensures) (c2 .if6 .left) _
+    (omega arith) (c6 .if3 .left) (c5 .if4 .left) (omega arith) _ (c3 .wide .ensures) (omega arith) _
     (c1 .piece-rule .ensures) (c .if7 .taken)
 
 returns-8 : tie.Need-returns-8
@@ -101,7 +101,7 @@ returns-8 c =
     let c13 = c11 .before .before in
     let a = c13 .args in
     ruled (a .format) (a .image .now) _ (c8 .layout-of .ensures) _ (c11 .header-size .ensures) (omega arith)
-    (omega arith) (c6 .if3 .left) (c5 .if4 .left) (omega arith) _ (c3 .wide .ensures) (c2 .if6 .left) _
+    (omega arith) (c6 .if3 .left) (c5 .if4 .left) (omega arith) _ (c3 .wide .ensures) (omega arith) _
     (c1 .piece-rule .ensures) (c .if7 .left)
 
 pub judge-spec : {M : Type 1} → statement M

@@ -13,7 +13,7 @@ use Rattle.format.specs.Refusals.{value}
 use Rattle.format.specs.declared.Format.{Format}
 use Rattle.station.specs.Receive.{keyOf}
 use Rattle.station.specs.Parts.{frameOf}
-use Rattle.station.proofs.Steps.{judged-start}
+use Rattle.frame.proofs.Judged.{sound-image}
 use Rattle.station_bytes.proofs.Calling.{sound-of, state-size, receive-state, receive-store, receive-field, receive-image, receive-none, receive-step, key-place}
 use borrow.Author.Needs.{needs}
 use Rattle.station_bytes.proofs.receive.Statement.{statement}
@@ -95,8 +95,8 @@ step-at-requires c κs = let j = c .before .before .before .before .before .befo
     let a = s .before .before .before .before .before .before .before .args in
     let sound = (sound-of (a .state .now) _ _ (s .before .sound-codes .ensures) (not-false _ (s .if1 .left))) in
     let judged = as-judged (a .image .now) _ (f .format-of .ensures) (j .judge .ensures) (c .before .before .before .before .before .before .head .given .1) in
-    let n = judged-start _ (a .image .now) _ (sym judged) in
-    (c .before .before .if4 .left, state-size (a .state .now) _ sound, f .before .before .before .if2 .left, n .0, n .1)
+    let n = sound-image _ (a .image .now) _ (sym judged) in
+    (c .before .before .if4 .left, state-size (a .state .now) _ sound, f .before .before .before .if2 .left, n .starts, n .most)
 
 same-length-5 : tie.Need-same-length-5
 same-length-5 c = search needs

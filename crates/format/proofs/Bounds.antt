@@ -1,0 +1,30 @@
+-- The table of bounds, computed.
+use mathlib.Core.Path.{_≡_, refl}
+use mathlib.Core.Bool.{Bool, true}
+use mathlib.Core.List.{[], _∷_}
+use lib.Dec.{eqb}
+use borrow.Author.Tests.{eqb-true}
+use Rattle.format.specs.Tests.{allAfter, allTrue}
+use Rattle.format.specs.Formats.{packetLimit, pieceSize, headerSize, numberRange, flagBits, packetStart, inRange}
+use Rattle.format.specs.Refusals.{number}
+use Rattle.format.specs.Bounds.{Bound, numbers, bits, limits, starts, ranges, table, Holds, FormatBounds}
+use Rattle.format.proofs.Tables.{by-test, sameBool, same-bool, sameNumbers, same-numbers}
+
+abbrev test : Bound → Bool
+test (numbers name n) = eqb (number name) n
+test (bits flag n) = eqb (flagBits flag) n
+test (limits format packet piece header range) =
+    sameNumbers (packetLimit format ∷ pieceSize format ∷ headerSize format ∷ numberRange format ∷ []) (packet ∷ piece ∷ header ∷ range ∷ [])
+test (starts format flag n) = eqb (packetStart format flag) n
+test (ranges said ok) = sameBool (inRange said) ok
+
+says : (bound : Bound) → test bound ≡ true → Holds bound
+says (numbers name n) e = eqb-true _ _ e
+says (bits flag n) e = eqb-true _ _ e
+says (limits format packet piece header range) e = same-numbers _ _ e
+says (starts format flag n) e = eqb-true _ _ e
+says (ranges said ok) e = same-bool _ _ e
+
+pub format-bounds : FormatBounds
+unfolding FormatBounds allAfter allTrue inRange
+format-bounds = by-test Holds test says table refl

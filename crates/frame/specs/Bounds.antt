@@ -1,0 +1,145 @@
+-- Document 01, "Frame images" and the piece rules: every end of every range, from both sides, and the order of refusals 1 to 5. The
+-- figures are literals, so that a bound changed alike in a definition and in the code breaks the claim. proofs/Bounds.antt proves it.
+use Prim.Native.Nat.{ℕ}
+use mathlib.Core.Path.{_≡_}
+use mathlib.Core.Bool.{Bool, true, false}
+use mathlib.Core.List.{List, [], _∷_, _++_}
+use lib.ListN.{replicate}
+use Rattle.format.specs.declared.Format.{Format}
+use Rattle.format.specs.declared.Format.the-variants.{Extended, Standard}
+use Rattle.format.specs.declared.Flag.{Flag}
+use Rattle.format.specs.declared.Flag.the-variants.{Middle, Start, End, Single}
+use Rattle.format.specs.Refusals.{Result, value, refused}
+use Rattle.format.specs.Tables.{AllHold}
+use Rattle.frame.specs.Judge.{Judged, pieceRule, judge}
+
+pub data Bound : Type 0 where
+  -- whether a piece with that count and number keeps its rule
+  rules : Format → Flag → (count number : ℕ) → Bool → Bound
+  -- an image, and the number it is refused with: 0 if it is sound
+  judges : Format → List ℕ → ℕ → Bound
+
+-- an extended image by its bytes 0, 3 and 4 and the number of its data bytes
+abbrev pub extended : (byte0 byte3 byte4 size : ℕ) → List ℕ
+extended byte0 byte3 byte4 size = byte0 ∷ 0x45 ∷ 0x00 ∷ byte3 ∷ byte4 ∷ replicate size 7
+
+-- a standard image by its byte 1 and its data bytes: the first, which is the number but for a single, and how many follow
+abbrev pub standard : (byte1 first more : ℕ) → List ℕ
+standard byte1 first more = 0x96 ∷ byte1 ∷ first ∷ replicate more 7
+
+abbrev pub pieceTable : List Bound
+pieceTable =
+    -- single: any count 0 to 8; extended number 0
+    rules Extended Single 0 0 true
+    ∷ rules Extended Single 8 0 true
+    ∷ rules Extended Single 9 0 false
+    ∷ rules Extended Single 0 1 false
+    ∷ rules Extended Single 8 63 false
+    ∷ rules Standard Single 0 0 true
+    ∷ rules Standard Single 8 0 true
+    ∷ rules Standard Single 9 0 false
+    -- start: count 8, number 0
+    ∷ rules Extended Start 8 0 true
+    ∷ rules Extended Start 7 0 false
+    ∷ rules Extended Start 9 0 false
+    ∷ rules Extended Start 8 1 false
+    ∷ rules Standard Start 8 0 true
+    ∷ rules Standard Start 7 0 false
+    ∷ rules Standard Start 9 0 false
+    ∷ rules Standard Start 8 1 false
+    -- middle: count 8; extended any number, standard number 1 to 254
+    ∷ rules Extended Middle 8 0 true
+    ∷ rules Extended Middle 8 63 true
+    ∷ rules Extended Middle 7 1 false
+    ∷ rules Extended Middle 9 1 false
+    ∷ rules Standard Middle 8 1 true
+    ∷ rules Standard Middle 8 0 false
+    ∷ rules Standard Middle 8 254 true
+    ∷ rules Standard Middle 8 255 false
+    ∷ rules Standard Middle 7 1 false
+    ∷ rules Standard Middle 9 1 false
+    -- end: extended count 1 to 8, any number
+    ∷ rules Extended End 1 0 true
+    ∷ rules Extended End 0 0 false
+    ∷ rules Extended End 0 63 false
+    ∷ rules Extended End 8 63 true
+    ∷ rules Extended End 9 63 false
+    -- end: standard number 1 to 255 and count 2 to 8, but at least 3 where the number is 1
+    ∷ rules Standard End 8 1 true
+    ∷ rules Standard End 8 0 false
+    ∷ rules Standard End 8 255 true
+    ∷ rules Standard End 8 256 false
+    ∷ rules Standard End 9 255 false
+    ∷ rules Standard End 2 2 true
+    ∷ rules Standard End 1 2 false
+    ∷ rules Standard End 2 255 true
+    ∷ rules Standard End 1 255 false
+    ∷ rules Standard End 3 1 true
+    ∷ rules Standard End 2 1 false
+    ∷ []
+
+abbrev pub imageTable : List Bound
+imageTable =
+    -- extended: 5 to 13 bytes, count 0 to 8
+    judges Extended (0x80 ∷ 0x45 ∷ 0x00 ∷ 0xC0 ∷ []) 1
+    ∷ judges Extended (extended 0x80 0xC0 0x10 0) 0
+    ∷ judges Extended (extended 0x88 0xC0 0x10 8) 0
+    ∷ judges Extended (extended 0x89 0xC0 0x10 9) 1
+    ∷ judges Extended (extended 0x89 0xC0 0x10 8) 4
+    -- length not header plus count: one less, one more
+    ∷ judges Extended (extended 0x81 0xC0 0x10 0) 4
+    ∷ judges Extended (extended 0x87 0xC0 0x10 8) 4
+    -- each fixed bit
+    ∷ judges Extended (extended 0x01 0xC0 0x10 1) 2
+    ∷ judges Extended (extended 0xA1 0xC0 0x10 1) 2
+    ∷ judges Extended (extended 0x91 0xC0 0x10 1) 2
+    ∷ judges Extended (extended 0x81 0xC0 0x14 1) 2
+    ∷ judges Extended (extended 0x81 0xC0 0x12 1) 2
+    ∷ judges Extended (extended 0x81 0xC0 0x11 1) 2
+    -- RTR
+    ∷ judges Extended (extended 0xC1 0xC0 0x10 1) 3
+    -- a piece of each flag, and one that breaks its rule
+    ∷ judges Extended (extended 0x81 0xC1 0x10 1) 5
+    ∷ judges Extended (extended 0x88 0x40 0x10 8) 0
+    ∷ judges Extended (extended 0x88 0x41 0x10 8) 5
+    ∷ judges Extended (extended 0x88 0x3F 0x10 8) 0
+    ∷ judges Extended (extended 0x87 0x3F 0x10 7) 5
+    ∷ judges Extended (extended 0x81 0xBF 0x10 1) 0
+    ∷ judges Extended (extended 0x80 0xBF 0x10 0) 5
+    -- two refusals apply: LENGTH before FORM, FORM before REMOTE, REMOTE before COUNT, COUNT before PIECE
+    ∷ judges Extended (extended 0x11 0xC0 0x10 9) 1
+    ∷ judges Extended (extended 0xD1 0xC0 0x10 1) 2
+    ∷ judges Extended (extended 0xC2 0xC0 0x10 1) 3
+    ∷ judges Extended (extended 0x82 0xC1 0x10 1) 4
+    -- standard: 2 to 10 bytes, count 0 to 8
+    ∷ judges Standard (0x96 ∷ []) 1
+    ∷ judges Standard (0x96 ∷ 0xE0 ∷ []) 0
+    ∷ judges Standard (standard 0xE8 7 7) 0
+    ∷ judges Standard (standard 0xE9 7 8) 1
+    ∷ judges Standard (standard 0xE9 7 7) 4
+    ∷ judges Standard (0x96 ∷ 0xE1 ∷ []) 4
+    ∷ judges Standard (standard 0xE7 7 7) 4
+    ∷ judges Standard (standard 0xF1 7 0) 3
+    ∷ judges Standard (standard 0xA8 0 7) 0
+    ∷ judges Standard (standard 0xA8 1 7) 5
+    ∷ judges Standard (standard 0x88 254 7) 0
+    ∷ judges Standard (standard 0x88 255 7) 5
+    ∷ judges Standard (standard 0xC2 255 1) 0
+    ∷ judges Standard (standard 0xC1 255 0) 5
+    -- LENGTH before REMOTE, REMOTE before COUNT, COUNT before PIECE
+    ∷ judges Standard (standard 0xF9 7 8) 1
+    ∷ judges Standard (standard 0xF2 7 0) 3
+    ∷ judges Standard (standard 0xC2 1 0) 4
+    ∷ []
+
+-- the number that a result is refused with, 0 if it is not
+abbrev pub refusalOf : Result Judged → ℕ
+refusalOf (value judged) = 0
+refusalOf (refused n) = n
+
+abbrev pub Holds : Bound → Type 0
+Holds (rules format flag count number ok) = pieceRule format flag count number ≡ ok
+Holds (judges format image n) = refusalOf (judge format image) ≡ n
+
+unfoldable pub JudgingBounds : Type 0
+JudgingBounds = AllHold Holds (pieceTable ++ imageTable)
