@@ -13,7 +13,7 @@ use Rattle.format.specs.declared.Fields.{Fields}
 use Rattle.format.specs.declared.Fields.the-variants as fields
 use Rattle.format.specs.declared.Refusal.{Refusal}
 use Rattle.format.specs.Formats.{formatOf, inRange, numberRange}
-use Rattle.format.specs.Refusals.{Result, value, refused, guarded, number}
+use Rattle.format.specs.Refusals.{Result, value, refused, checkedThen, number}
 use Rattle.format.proofs.Tests.{each, from-each}
 use Rattle.frame.specs.declared.Head.{Head}
 use Rattle.frame.specs.Judge.{Frame, Judged, judge}
@@ -85,7 +85,7 @@ module _ (slots : List Slot) (store : List ℕ) (bus : ℕ) (image : List ℕ) (
   -- an image refused by 1 to 5
   pub at-refused : (own : Refusal) → refused (number own) ≡ judge Extended image
       → heard (extendedStation slots) store bus image ≡ unchanged (extendedStation slots) store (refused (number own))
-  unfolding heard receive guarded
+  unfolding heard receive checkedThen
   at-refused own e = simp (sym e, s, eq-eqb (length store) 32768 w, le-leb bus 1 b)
 
   module _ (judged : Judged) (e : value judged ≡ judge Extended image) (range : keyInRange Extended (keyOf bus (judged .frame)) ≡ true) where

@@ -12,7 +12,7 @@ use lib.Seq.{drop-drop, length-take-le}
 use borrow.Author.Tests.{le-leb, lt-leb, eq-eqb}
 use Rattle.format.specs.declared.Format.the-variants.{Extended}
 use Rattle.format.specs.declared.Refusal.the-variants as refusal
-use Rattle.format.specs.Refusals.{Result, value, refused, check, guarded}
+use Rattle.format.specs.Refusals.{Result, value, refused, guarded}
 use Rattle.frame.specs.Judge.{Judged, judge}
 use Rattle.packet.specs.Send.{over}
 use Rattle.stream.specs.declared.Progress.the-variants.{Idle}
@@ -26,7 +26,7 @@ use Rattle.station.specs.Open.{StationAfter, changedAt, opening}
 use Rattle.station.specs.Demands.{StaysSound}
 use Rattle.station.proofs.Calls.{Good, good, stays-sound}
 use Rattle.station.proofs.Isolation.{after-call}
-use Rattle.station.proofs.Soundness.{stays}
+use Rattle.station.proofs.Soundness.{stays, openChecks}
 use Rattle.station.proofs.Turning.{rest-is}
 use Rattle.trace.specs.declared.Entry.{Entry}
 use Rattle.trace.specs.Records as records
@@ -54,19 +54,11 @@ unfolding opening
 opened-format station bus (refused n) = refl
 opened-format station bus (value judged) =
     let key = keyOf bus (judged .frame) in
-    handed-format station (openSlot key Idle)
-    (guarded
-    (check refusal.State (soundStation station)
-    ∷ check refusal.Field (keyInRange (station .format) key)
-    ∷ check refusal.Taken (not (ltb (place (hasKey key) (station .slots)) 16))
-    ∷ check refusal.Full (ltb (place isClosed (station .slots)) 16)
-    ∷ [])
-    (place isClosed (station .slots)))
+    handed-format station (openSlot key Idle) (guarded (openChecks station key) (place isClosed (station .slots)))
 
 opened-sound : (station : Station) (bus : ℕ) (j : Result Judged) → soundStation station ≡ true → soundStation (openedFor station bus j) ≡ true
-unfolding StaysSound
 opened-sound station bus (refused n) s = s
-opened-sound station bus (value judged) s = stays station s .0 (keyOf bus (judged .frame))
+opened-sound station bus (value judged) s = stays .opens station s (keyOf bus (judged .frame))
 
 pub record Keeps (r : After) : Type 0 where
   pub slots : sound Extended (r .station .slots) ≡ true
