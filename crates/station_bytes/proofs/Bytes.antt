@@ -5,7 +5,7 @@ use mathlib.Core.Path.{_≡_, refl, _∙_, sym, ap}
 use mathlib.Core.Bool.{Bool, true, false, cond, not, false≢true}
 use mathlib.Core.List.{List, [], _∷_, _++_, append-assoc}
 use lib.Dec.{eqb, leb}
-use lib.ListN.{length, getD, set, take, drop, length-append, drop-of-length-le}
+use lib.ListN.{length, getD, set, take, drop, length-append, drop-of-length-le, take-append-drop}
 use lib.Seq.{split-at, set-split, take-add, drop-drop, drop-cons, take-at, drop-at, length-take-le}
 use borrow.Author.Tests.{eqb-true, leb-true}
 use Rattle.copying.specs.Copy.{written, copied}
@@ -23,8 +23,28 @@ use Rattle.station.specs.Stations.{stationOf, withSlots}
 use Rattle.words.specs.Words.{wordBytes, wordAt}
 use Rattle.words.proofs.Laws.{written-at, four}
 use Rattle.station_bytes.specs.States.{formatNumber, formatIn, formatAt, progressNumber, progressFrom, keyIn, firstOf, secondOf, slotBytes, slotsBytes, stateBytes, slotIn, slotsFrom, slotWritten, slotsWritten, stationIn, isState}
-use Rattle.station_bytes.specs.Parts.{recordsGood, recordCodes, Tested}
+use Rattle.station_bytes.specs.Parts.{recordsGood, recordCodes, Tested, IsThere}
 use Rattle.station_bytes.proofs.Scans.{codes-length, not-tested, not-good, its-codes, good-tested}
+
+-- ---- a number that stands where it is to be written
+
+pub there : (state : List ℕ) → ((i : ℕ) → getD state i 0 < 256) → (at : ℕ) → at + 4 ≤ length state → (w number : ℕ) → w ≡ wordAt state at
+    → IsThere state at number (eqb w number)
+unfolding written
+there state bytes at h w number e =
+    record {
+      told = ap (λ (x : ℕ). eqb x number) e;
+      same = λ q.
+          let is : wordBytes number ≡ take 4 (drop at state) =
+          ap wordBytes (sym (eqb-true w number q) ∙ e) ∙ written-at state bytes at h in
+          let put = all-copied state at (wordBytes number) (omega (arith, h, four number)) in
+          sym
+          (put ∙ ap (λ (n : ℕ). take at state ++ (wordBytes number ++ drop (at + n) state)) (four number)
+          ∙ ap (λ (x : List ℕ). take at state ++ (x ++ drop (at + 4) state)) is
+          ∙ ap (λ (x : List ℕ). take at state ++ (take 4 (drop at state) ++ x)) (sym (drop-drop 4 at state))
+          ∙ ap (λ (x : List ℕ). take at state ++ x) (take-append-drop 4 (drop at state))
+          ∙ take-append-drop at state);
+    }
 
 -- ---- what is read back is what was written
 

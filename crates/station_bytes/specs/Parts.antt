@@ -42,6 +42,11 @@ unfoldable pub recordCodes : List ℕ → (i n : ℕ) → List ℕ
 recordCodes state i zero = []
 recordCodes state i (suc n) = recordCode i (wordAt state (8 * i)) (wordAt state (8 * i + 4)) ∷ recordCodes state (i + 1) n
 
+-- whether a number stands at a place already; where it does, writing it changes nothing
+pub record IsThere (state : List ℕ) (at number : ℕ) (r : Bool) : Type 0 where
+  pub told : r ≡ eqb (wordAt state at) number
+  pub same : r ≡ true → state ≡ copied state at (wordBytes number)
+
 -- what is found out of a state's bytes, and the codes then
 pub record Tested (state : List ℕ) (r : Bool) (codes : List ℕ) : Type 0 where
   pub told : r ≡ allTrue (isState state ∷ soundStation (stationIn state) ∷ [])

@@ -31,7 +31,7 @@ ghost use Rattle.station.specs.Parts.{frameOf};
 ghost use Rattle.words.specs.Words.{wordBytes, wordAt};
 ghost use Rattle.station_bytes.specs.States.{formatNumber, formatIn, progressNumber, progressFrom, slotsFrom};
 ghost use Rattle.station_bytes.specs.Calls.{receiveIn, renewed, openIn, closeIn, readIn, bytesAfter, stateAfter};
-ghost use Rattle.station_bytes.specs.Parts.{keyFits, progressFits, recordsGood, recordCodes, Tested, StepsIn};
+ghost use Rattle.station_bytes.specs.Parts.{keyFits, progressFits, recordsGood, recordCodes, Tested, IsThere, StepsIn};
 
 // The bytes of a state.
 pub struct State;
@@ -54,6 +54,25 @@ fn put_word(state: &mut [u8], at: usize, number: u32)
 {
     let bytes = word_bytes(number);
     copy_in(state, at, &bytes);
+}
+
+// Whether a number stands in the four bytes from place at on already.
+fn is_there(state: &[u8], at: usize, number: u32) -> bool
+    requires { ⌜ at + 4 ≤ length (now state) ⌝ }
+    ensures { λ r. ⌜ IsThere (now (state .entry)) at number r ⌝ }
+{
+    word_of(state[at], state[at + 1], state[at + 2], state[at + 3]) == number
+}
+
+// Writes a number to the four bytes from place at on, unless it stands there: a call that changes
+// nothing stores nothing.
+fn replace_word(state: &mut [u8], at: usize, number: u32)
+    requires { ⌜ at + 4 ≤ length (now state) ⌝ }
+    ensures { λ _. ⌜ now (state .exit) ≡ copied (now (state .entry)) at (wordBytes number) ⌝ }
+{
+    if !is_there(state, at, number) {
+        put_word(state, at, number);
+    }
 }
 
 // The format of a number: 0 is extended, and any other stands for standard.
@@ -194,7 +213,8 @@ fn progress_number(progress: Progress) -> u32
     }
 }
 
-// The stream of slot i steps: its area is lent on, and its record gets the progress after it.
+// The stream of slot i steps: its area is lent on, and its record gets the progress after it. ORPHAN, which
+// changes neither, stores nothing.
 fn step_at(
     format: Format,
     i: usize,
@@ -221,7 +241,7 @@ fn step_at(
         &mut store[a..e],
     );
     let reached = next.progress;
-    put_word(state, at, progress_number(reached));
+    replace_word(state, at, progress_number(reached));
     next.answer
 }
 

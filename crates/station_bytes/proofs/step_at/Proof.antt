@@ -52,8 +52,8 @@ step-requires c κs = search needs
 progress-number-requires : tie.Need-progress-number-requires
 progress-number-requires c κs = search needs
 
-put-word-requires : tie.Need-put-word-requires
-put-word-requires c κs = search needs
+replace-word-requires : tie.Need-replace-word-requires
+replace-word-requires c κs = search needs
 
 same-length : tie.Need-same-length
 same-length c = search needs
@@ -71,7 +71,7 @@ returns c = let s = c .before .before .before .before .before .before .before in
     steps-in (g .format) (g .i) (frameOf head image) (g .state .now) (g .store .now) (a .pre .0) (a .pre .2) (omega (arith, a .pre .4, length-drop (head .start) image))
     (s .step .result) _ _ _ _ (s .step .ensures) (p .progress-of .ensures ∙ ap progressFrom (p .before .word-at .ensures)) (part-is (g .store .now) (g .i))
     (rest-is image (head .start)) _ (c .before .before .before .progress-number .ensures) _
-    (c .before .before .put-word .ensures)
+    (c .before .before .replace-word .ensures)
 
 pub step-at-spec : {M : Type 1} → statement M
 step-at-spec =
@@ -91,7 +91,7 @@ step-at-spec =
     part-step-end-2
     step-requires
     progress-number-requires
-    put-word-requires
+    replace-word-requires
     same-length
     same-length-2
     returns)
