@@ -4,3 +4,4 @@ mod Placing
 mod Sending
 pub mod Pieces
 mod Examples
+mod Bounds

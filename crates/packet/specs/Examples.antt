@@ -12,6 +12,7 @@ use Rattle.format.specs.declared.Flag.{Flag}
 use Rattle.format.specs.declared.Flag.the-variants.{End, Single}
 use Rattle.format.specs.declared.Refusal.the-variants.{Length, Form, Remote, Count, Piece, Size}
 use Rattle.format.specs.Refusals.{Result, value, refused, number}
+use Rattle.format.specs.Tables.{AllHold}
 use Rattle.frame.specs.Judge.{Judged, judge}
 use Rattle.frame.specs.Image.{imageOf}
 use Rattle.packet.specs.Split.{piece}
@@ -76,10 +77,6 @@ Holds (numbers size k said) =
     (priority source group destination function : ℕ) (packet : List ℕ) → length packet ≡ size
     → getD (imageOf (piece (fields.Extended priority source group destination function) packet k)) 3 256 ≡ said
 
-abbrev pub AllHold : List Example → Type 0
-AllHold [] = Unit {0}
-AllHold (example ∷ rest) = Holds example × AllHold rest
-
 -- the single claim: every example of the table holds
 unfoldable pub ExamplesHold : Type 0
-ExamplesHold = AllHold table
+ExamplesHold = AllHold Holds table

@@ -2,4 +2,5 @@ pub mod Split
 pub mod Send
 pub mod Claims
 pub mod Examples
+pub mod Bounds
 pub mod Parts

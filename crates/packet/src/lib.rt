@@ -16,6 +16,9 @@ ghost use Rattle.frame.specs.Image.{headerBytes};
 ghost use Rattle.packet.specs.Split.{countOf, pieceFlag, pieceBytes, frameWith};
 ghost use Rattle.packet.specs.Send.{pieceCount, send, answer, over, outputAfter};
 ghost use Rattle.packet.specs.Parts.{filler, Placed};
+ghost use Rattle.packet.specs.Claims.{Splitting};
+ghost use Rattle.packet.specs.Examples.{ExamplesHold};
+ghost use Rattle.packet.specs.Bounds.{SendingBounds};
 
 // The number of pieces, over the piece size z.
 fn count_of(z: usize, n: usize) -> usize
@@ -190,3 +193,10 @@ pub fn write_piece(fields: Fields, packet: &[u8], k: usize, output: &mut [u8]) -
     let bytes = bytes_at(z, packet, k);
     place(fields, flag, number, bytes, output)
 }
+
+// The claims of this crate. It does nothing: its contract ties each claim to its proof.
+pub fn promised()
+    ensures splitting { λ _. ⌜ Splitting ⌝ }
+    ensures examples { λ _. ⌜ ExamplesHold ⌝ }
+    ensures sending_bounds { λ _. ⌜ SendingBounds ⌝ }
+{}

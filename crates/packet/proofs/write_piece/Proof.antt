@@ -10,7 +10,7 @@ use Rattle.packet.proofs.Sending.{Sized, Indexed, sizes, bad-field, bad
 use Rattle.packet.proofs.write_piece.Statement.{statement}
 use Rattle.packet.proofs.write_piece.Tie as tie
 
--- what is known after the test of the size, and after that of the index
+-- what is known after the test of the size
 sized : (c : tie.After-piece-size)
     → let l = c .before .before in
     let a = l .before .before .before .before .before .before .args in
@@ -24,23 +24,6 @@ sized c =
       within = omega (arith, l .packet-limit .ensures);
       size = c .piece-size .ensures;
     }
-
-indexed : (c : tie.Else3)
-    → let z = c .before .before in
-    let f = z .before .before .before in
-    let a = f .before .before .before .before .before .args in
-    Indexed (a .fields) (a .packet .now) (a .k) (f .format .result) (z .piece-size .result) (c .before .count-of .result)
-indexed c = record { sized = sized (c .before .before); counted = c .before .count-of .ensures; index = omega arith }
-
--- the number of piece k, over the format's range
-numbered : (c : tie.After-number-at)
-    → let g = c .before .before .before in
-    let f = g .before .before .before .before .before in
-    c .number-at .result ≡ f .before .before .before .before .before .args .k % numberRange (f .format .result)
-numbered c =
-    let f = c .before .before .before .before .before .before .before .before in
-    let k = f .before .before .before .before .before .args .k in
-    c .number-at .ensures ∙ ap (λ (m : ℕ). k % m) (c .before .number-range .ensures)
 
 in-range-requires : tie.Need-in-range-requires
 in-range-requires c κs = search needs
@@ -76,6 +59,24 @@ returns-3 c =
     let z = c .before .before in
     let a = z .before .before .before .before .before .before .before .before .args in
     bad-index _ _ (a .k) (a .output .now) _ _ (sized z) _ (c .before .count-of .ensures) (omega arith)
+
+-- what is known after the test of the index
+indexed : (c : tie.Else3)
+    → let z = c .before .before in
+    let f = z .before .before .before in
+    let a = f .before .before .before .before .before .args in
+    Indexed (a .fields) (a .packet .now) (a .k) (f .format .result) (z .piece-size .result) (c .before .count-of .result)
+indexed c = record { sized = sized (c .before .before); counted = c .before .count-of .ensures; index = omega arith }
+
+-- the number of piece k, over the format's range
+numbered : (c : tie.After-number-at)
+    → let g = c .before .before .before in
+    let f = g .before .before .before .before .before in
+    c .number-at .result ≡ f .before .before .before .before .before .args .k % numberRange (f .format .result)
+numbered c =
+    let f = c .before .before .before .before .before .before .before .before in
+    let k = f .before .before .before .before .before .args .k in
+    c .number-at .ensures ∙ ap (λ (m : ℕ). k % m) (c .before .number-range .ensures)
 
 flag-at-requires : tie.Need-flag-at-requires
 flag-at-requires c κs = search needs
