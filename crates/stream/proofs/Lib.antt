@@ -1,3 +1,4 @@
 mod Steps
 pub mod Answers
 pub mod Cases
+pub mod Bounds

@@ -7,6 +7,8 @@ ghost use Prim.Native.Nat.{_+_, _≤_, _<_};
 ghost use lib.ListN.{length};
 ghost use Rattle.copying.specs.Copy.{written};
 ghost use Rattle.stream.specs.Step.{collecting, followed, stepped, offered, nextOf};
+ghost use Rattle.stream.specs.Claims.{OneAnswer};
+ghost use Rattle.stream.specs.Bounds.{StepBounds};
 
 // How far a stream is. Collecting and Done hold h, the number of bytes at the head of the area.
 pub enum Progress {
@@ -194,3 +196,9 @@ pub fn step(
     let m = format.number_range();
     advance(z, m, progress, flag, number, bytes, area)
 }
+
+// The claims of this crate. It does nothing: its contract ties each claim to its proof.
+pub fn promised()
+    ensures one_answer { λ _. ⌜ OneAnswer ⌝ }
+    ensures step_bounds { λ _. ⌜ StepBounds ⌝ }
+{}
