@@ -1,3 +1,4 @@
 pub mod Slots
 pub mod Sound
 pub mod Codes
+pub mod Bounds

@@ -15,6 +15,7 @@ ghost use Rattle.format.specs.Refusals.{meaning};
 ghost use Rattle.slot.specs.Codes.{keyCode, slotCode, codesFrom, is, clashing};
 ghost use Rattle.slot.specs.Slots.{sameFields, isClosed, closed, openWith, hasKey, place};
 ghost use Rattle.slot.specs.Sound.{keyInRange, fits, slotSound, slotsSound, any, sound, sought};
+ghost use Rattle.slot.specs.Bounds.{SlotBounds};
 
 // What a stream is known by: the bus (0 is A, 1 is B) and all identifier fields.
 pub struct Key {
@@ -397,3 +398,8 @@ pub fn key_number(key: Key) -> u32
     }
     key_code(key)
 }
+
+// The claims of this crate. It does nothing: its contract ties each claim to its proof.
+pub fn promised()
+    ensures slot_bounds { λ _. ⌜ SlotBounds ⌝ }
+{}

@@ -1,4 +1,4 @@
--- `stream::promised` meets its contract: the claims' proofs.
+-- `stream::promised`: the proof of each claim.
 use Rattle.stream.proofs.Answers.{one-answer}
 use Rattle.stream.proofs.Bounds.{step-bounds}
 use Rattle.stream.proofs.promised.Statement.{statement}
