@@ -10,3 +10,4 @@ pub mod Turning
 pub mod Handing
 pub mod Refusals
 pub mod OnCalls
+mod Bounds

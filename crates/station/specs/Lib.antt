@@ -5,3 +5,4 @@ pub mod Open
 pub mod Read
 pub mod Run
 pub mod Parts
+pub mod Bounds

@@ -27,6 +27,8 @@ ghost use Rattle.station.specs.Receive.{keyOf, progressIn, receive, conc
 ghost use Rattle.station.specs.Open as handing;
 ghost use Rattle.station.specs.Read.{reading, lengthOf, partOf, placeOf};
 ghost use Rattle.station.specs.Parts.{refusedAs, frameOf, Steps};
+ghost use Rattle.station.specs.Demands as demands;
+ghost use Rattle.station.specs.Bounds.{StationBounds};
 
 pub struct Station {
     pub format: Format,
@@ -355,3 +357,17 @@ impl Station {
         }
     }
 }
+
+// The claims of this crate. It does nothing: its contract ties each claim to its proof.
+pub fn promised()
+    ensures demand3 { λ _. ⌜ demands.Demand3 ⌝ }
+    ensures as_run { λ _. ⌜ demands.AsRun ⌝ }
+    ensures demand3_on_calls { λ _. ⌜ demands.Demand3OnCalls ⌝ }
+    ensures round_trip { λ _. ⌜ demands.RoundTrip ⌝ }
+    ensures round_trip_on_calls { λ _. ⌜ demands.RoundTripOnCalls ⌝ }
+    ensures refused_keeps { λ _. ⌜ demands.RefusedKeeps ⌝ }
+    ensures stays_sound { λ _. ⌜ demands.StaysSound ⌝ }
+    ensures never_long { λ _. ⌜ demands.NeverLong ⌝ }
+    ensures can_be_met { λ _. ⌜ demands.CanBeMet ⌝ }
+    ensures station_bounds { λ _. ⌜ StationBounds ⌝ }
+{}
