@@ -25,6 +25,7 @@ ghost use Rattle.watch_bytes.specs.States as watches;
 ghost use Rattle.siljuvatt.specs.Answers.{refusedWord, brokeWord, outcomeWord, replyWord, toldWord};
 ghost use Rattle.siljuvatt.specs.Arguments.{noFields, extendedFields, standardFields, fieldsFrom, keyFrom};
 ghost use Rattle.siljuvatt.specs.Calls.{countIn, newIn, startAfter, rowIn};
+ghost use Rattle.siljuvatt.specs.Claims.{OneWord, Small};
 
 fn wide(x: u8) -> u32
     ensures { λ r. ⌜ r ≡ x ⌝ }
@@ -336,3 +337,9 @@ pub extern "C" fn siljuvatt_watch_check(state: &mut [u8], time: u32) -> u32
 {
     outcome_word(watch_bytes::check(state, time))
 }
+
+// The claims of this crate. It does nothing: its contract ties each claim to its proof.
+pub fn promised()
+    ensures one_word { λ _. ⌜ OneWord ⌝ }
+    ensures small { λ _. ⌜ Small ⌝ }
+{}

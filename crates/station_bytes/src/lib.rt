@@ -32,6 +32,7 @@ ghost use Rattle.words.specs.Words.{wordBytes, wordAt};
 ghost use Rattle.station_bytes.specs.States.{formatNumber, formatIn, progressNumber, progressFrom, slotsFrom};
 ghost use Rattle.station_bytes.specs.Calls.{receiveIn, renewed, openIn, closeIn, readIn, bytesAfter, stateAfter};
 ghost use Rattle.station_bytes.specs.Parts.{keyFits, progressFits, recordsGood, recordCodes, Tested, IsThere, StepsIn};
+ghost use Rattle.station_bytes.specs.Claims as claims;
 
 // The bytes of a state.
 pub struct State;
@@ -384,3 +385,17 @@ pub fn read_length(state: &[u8], store: &[u8], i: usize) -> Outcome
         }
     }
 }
+
+// The claims of this crate. It does nothing: its contract ties each claim to its proof.
+pub fn promised()
+    ensures read_back { λ _. ⌜ claims.ReadBack ⌝ }
+    ensures written_back { λ _. ⌜ claims.WrittenBack ⌝ }
+    ensures not_written { λ _. ⌜ claims.NotWritten ⌝ }
+    ensures as_first { λ _. ⌜ claims.AsFirst ⌝ }
+    ensures stay_sound { λ _. ⌜ claims.StaySound ⌝ }
+    ensures refused_keeps { λ _. ⌜ claims.RefusedKeeps ⌝ }
+    ensures as_run { λ _. ⌜ claims.AsRun ⌝ }
+    ensures demand3_on_bytes { λ _. ⌜ claims.Demand3OnBytes ⌝ }
+    ensures round_trip_on_bytes { λ _. ⌜ claims.RoundTripOnBytes ⌝ }
+    ensures read_at_end { λ _. ⌜ claims.ReadAtEnd ⌝ }
+{}

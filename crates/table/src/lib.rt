@@ -11,6 +11,7 @@ ghost use Rattle.stream.specs.Answers.{meaning};
 ghost use Rattle.station.specs.Stations.{stationOf};
 ghost use Rattle.station.specs.Receive.{receive};
 ghost use Rattle.table.specs.Front.{afterIn};
+ghost use Rattle.table.specs.Claims as claims;
 
 // The sixteen records of a table, by value.
 fn load(table: &[Slot]) -> [Slot; 16]
@@ -84,3 +85,17 @@ pub fn receive_by_value(
         answer: answer,
     }
 }
+
+// The claims of this crate. It does nothing: its contract ties each claim to its proof.
+pub fn promised()
+    ensures as_first { λ _. ⌜ claims.AsFirst ⌝ }
+    ensures one_given { λ _. ⌜ claims.OneGiven ⌝ }
+    ensures one_record { λ _. ⌜ claims.OneRecord ⌝ }
+    ensures not_sound { λ _. ⌜ claims.NotSound ⌝ }
+    ensures other_length { λ _. ⌜ claims.OtherLength ⌝ }
+    ensures refused_keeps { λ _. ⌜ claims.RefusedKeeps ⌝ }
+    ensures on_table { λ _. ⌜ claims.OnTable ⌝ }
+    ensures as_run { λ _. ⌜ claims.AsRun ⌝ }
+    ensures demand3_on_calls { λ _. ⌜ claims.Demand3OnCalls ⌝ }
+    ensures round_trip_on_calls { λ _. ⌜ claims.RoundTripOnCalls ⌝ }
+{}
