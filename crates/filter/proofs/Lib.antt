@@ -1,2 +1,3 @@
 mod Masks
 mod Claims
+mod Examples

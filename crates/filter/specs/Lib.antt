@@ -1,2 +1,3 @@
 pub mod Filters
 pub mod Claims
+pub mod Examples

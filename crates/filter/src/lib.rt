@@ -4,6 +4,7 @@ ghost use mathlib.Core.Path.{_≡_};
 ghost use Prim.Native.Nat.{_+_, _*_};
 ghost use Rattle.filter.specs.Filters.{accepts, eitherAccepts, rowPair};
 ghost use Rattle.filter.specs.Claims.{InImage};
+ghost use Rattle.filter.specs.Examples.{FilterExamples};
 
 // A mask bit that is 1 lets any identifier bit pass.
 pub struct Filter {
@@ -64,4 +65,5 @@ impl Pair {
 // The claims of this crate. It does nothing: its contract ties each claim to its proof.
 pub fn promised()
     ensures in_image { λ _. ⌜ InImage ⌝ }
+    ensures filter_examples { λ _. ⌜ FilterExamples ⌝ }
 {}

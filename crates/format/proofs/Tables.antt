@@ -1,30 +1,25 @@
 -- A table's claim, proved by one test that is computed over the whole table; and tests that two values are the same.
 use Prim.Native.Nat.{ℕ}
 use mathlib.Core.Path.{_≡_, refl}
-use mathlib.Core.Bool.{Bool, true, false, cond}
-use mathlib.Core.List.{List, [], _∷_}
+use mathlib.Core.Bool.{Bool, true, false, _&&_}
+use mathlib.Core.List.{List, [], _∷_, map}
 use native.Mathlib.Omega.{arith}
 use lib.Dec.{eqb}
 use borrow.Author.Tests.{eqb-true}
+use Rattle.format.specs.Tests.{allTrue}
 use Rattle.format.specs.Tables.{AllHold}
 use Rattle.format.specs.Refusals.{Result, value, refused}
+use Rattle.format.proofs.Tests.{Each, each}
 
-abbrev pub both : Bool → Bool → Bool
-both a b = cond a b false
+from-each-test : {A : Type 0} (Holds : A → Type 0) (test : A → Bool) → ((x : A) → test x ≡ true → Holds x)
+    → (table : List A) → Each (map test table) → AllHold Holds table
+from-each-test Holds test says [] t = tt
+from-each-test Holds test says (x ∷ xs) t = (says x (t .0), from-each-test Holds test says xs (t .1))
 
-abbrev pub every : {A : Type 0} → (A → Bool) → List A → Bool
-every test [] = true
-every test (x ∷ xs) = both (test x) (every test xs)
-
-pub both-hold : (a b : Bool) → both a b ≡ true → (a ≡ true) × (b ≡ true)
-both-hold true b e = (refl, e)
-both-hold false b e = let z : _≡_ {A = ℕ} 0 1 = cc in absurd (omega arith)
-
--- where the test says at every example what the claim says of it
+-- where the test says of an example what the claim says of it, one test of all of them proves the claim
 pub by-test : {A : Type 0} (Holds : A → Type 0) (test : A → Bool) → ((x : A) → test x ≡ true → Holds x)
-    → (table : List A) → every test table ≡ true → AllHold Holds table
-by-test Holds test says [] e = tt
-by-test Holds test says (x ∷ xs) e = let h = both-hold (test x) (every test xs) e in (says x (h .0), by-test Holds test says xs (h .1))
+    → (table : List A) → allTrue (map test table) ≡ true → AllHold Holds table
+by-test Holds test says table e = from-each-test Holds test says table (each (map test table) e)
 
 abbrev pub sameBool : Bool → Bool → Bool
 sameBool true b = b
@@ -41,14 +36,18 @@ abbrev pub sameNumbers : List ℕ → List ℕ → Bool
 sameNumbers [] [] = true
 sameNumbers [] (y ∷ ys) = false
 sameNumbers (x ∷ xs) [] = false
-sameNumbers (x ∷ xs) (y ∷ ys) = both (eqb x y) (sameNumbers xs ys)
+sameNumbers (x ∷ xs) (y ∷ ys) = eqb x y && sameNumbers xs ys
+
+and-true : (a b : Bool) → (a && b) ≡ true → (a ≡ true) × (b ≡ true)
+and-true true b e = (refl, e)
+and-true false b e = let z : _≡_ {A = ℕ} 0 1 = cc in absurd (omega arith)
 
 pub same-numbers : (xs ys : List ℕ) → sameNumbers xs ys ≡ true → xs ≡ ys
 same-numbers [] [] e = refl
 same-numbers [] (y ∷ ys) e = let z : _≡_ {A = ℕ} 0 1 = cc in absurd (omega arith)
 same-numbers (x ∷ xs) [] e = let z : _≡_ {A = ℕ} 0 1 = cc in absurd (omega arith)
 same-numbers (x ∷ xs) (y ∷ ys) e =
-    let h = both-hold (eqb x y) (sameNumbers xs ys) e in
+    let h = and-true (eqb x y) (sameNumbers xs ys) e in
     let p : x ≡ y = eqb-true x y (h .0) in
     let q : xs ≡ ys = same-numbers xs ys (h .1) in
     cc
