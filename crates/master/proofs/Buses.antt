@@ -5,7 +5,8 @@ use mathlib.Core.Bool.{true, false}
 use mathlib.Core.List.{List, [], _∷_}
 use native.Mathlib.Numerals.{add-one}
 use lib.Dec.{leb}
-use borrow.Author.Tests.{le-leb, lt-leb, eq-eqb}
+use native.Mathlib.Omega.{arith}
+use borrow.Author.Tests.{le-leb, lt-leb, eq-eqb, leb-true}
 use lib.ListN.{length, drop, getD, set, drop-of-length-le}
 use lib.Seq.{drop-cons}
 use Rattle.format.specs.Tests.{allTrue}
@@ -44,3 +45,9 @@ set-sound (x ∷ xs) (suc i) bus e h = from-each _ (each _ e .0, (set-sound xs i
 pub all-of : (l : List ℕ) → length l ≡ 64 → chosenSound l ≡ busesInRange l
 unfolding chosenSound allTrue
 all-of l n = rw (eq-eqb (length l) 64 n)
+
+pub bus-at : (l : List ℕ) (i : ℕ) → busesInRange l ≡ true → getD l i 0 ≤ 1
+unfolding busesInRange
+bus-at [] i e = omega arith
+bus-at (x ∷ xs) zero e = leb-true x 1 (each _ e .0)
+bus-at (x ∷ xs) (suc i) e = bus-at xs i (each _ e .1 .0)

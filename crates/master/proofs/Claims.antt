@@ -20,15 +20,15 @@ use Rattle.master.specs.declared.Activity.{Activity}
 use Rattle.master.specs.declared.Activity.the-variants.{Idle, UnderWay}
 use Rattle.master.specs.declared.Master.{Master}
 use Rattle.master.specs.Masters.{planOf, chosenBus, other, switched, busesInRange, chosenSound, exchangeSound, sound}
-use Rattle.master.specs.Exchanges.{Told, send, done, gaveUp, Step, Handed, given, handed, underWay, sent, ended, starting, counts, replying, chosenAfter, again, expired, timingOut}
+use Rattle.master.specs.Exchanges.{Told, send, done, gaveUp, Step, MasterAfter, given, handedBack, underWay, sent, ended, starting, counts, replying, chosenAfter, again, expired, timingOut}
 use Rattle.master.specs.Runs.{Call, start, reply, timeout, call, answers, run, sentOn, latest, unlessRefused, notRefused, withoutRefusals}
 use Rattle.master.specs.Claims.{NewIsSound, StaysSound, RefusedKeeps, RefusedPlayNoPart, Unanswered, LatestSend, LateReply}
 use Rattle.master.proofs.Buses.{set-sound}
 use Rattle.master.proofs.Moves.{refuses, start-sends, timeout-expires}
 
 -- a call gives its step, and then every check holds; or it refuses
-module _ (master : Master) (P : Handed → Type 0) (step : Step) (refusing : (n : ℕ) → P (refuses master n)) where
-  pub either : (checks : List Check) → (Passed checks → P (given step)) → P (handed master (guarded checks step))
+module _ (master : Master) (P : MasterAfter → Type 0) (step : Step) (refusing : (n : ℕ) → P (refuses master n)) where
+  pub either : (checks : List Check) → (Passed checks → P (given step)) → P (handedBack master (guarded checks step))
   unfolding guarded
   either [] giving = giving tt
   either (check name true ∷ checks) giving = either checks (λ p. giving (refl, p))
@@ -103,8 +103,8 @@ new-is-sound = refl
 
 -- ---- refused calls
 
-keeps : (master : Master) (checks : List Check) (step : Step) (n : ℕ) → handed master (guarded checks step) .answer ≡ refused n
-    → handed master (guarded checks step) .master ≡ master
+keeps : (master : Master) (checks : List Check) (step : Step) (n : ℕ) → handedBack master (guarded checks step) .answer ≡ refused n
+    → handedBack master (guarded checks step) .master ≡ master
 keeps master checks step =
     either master (λ h. (n : ℕ) → h .answer ≡ refused n → h .master ≡ master) step (λ n m e. refl) checks
     (λ p n e. let z : _≡_ {A = ℕ} 0 1 = cc in absurd (omega arith))
@@ -122,8 +122,8 @@ alone : (master : Master) (c : Call) (calls : List Call) (answer : Result Told) 
     → (withoutRefusals (answer ∷ answers m calls) ≡ answers master (unlessRefused answer c (notRefused m calls)))
     × (run m calls ≡ run master (unlessRefused answer c (notRefused m calls)))
 alone master c calls (value said) m e k rest = (
-  ap (λ (l : List (Result Told)). value said ∷ l) (rest .0) ∙ ap (λ (h : Handed). h .answer ∷ answers (h .master) (notRefused m calls)) (sym e),
-  rest .1 ∙ ap (λ (h : Handed). run (h .master) (notRefused m calls)) (sym e),
+  ap (λ (l : List (Result Told)). value said ∷ l) (rest .0) ∙ ap (λ (h : MasterAfter). h .answer ∷ answers (h .master) (notRefused m calls)) (sym e),
+  rest .1 ∙ ap (λ (h : MasterAfter). run (h .master) (notRefused m calls)) (sym e),
 )
 alone master c calls (refused n) m e k rest =
     (rest .0 ∙ ap (λ (x : Master). answers x (notRefused m calls)) (k n refl), rest .1 ∙ ap (λ (x : Master). run x (notRefused m calls)) (k n refl))
@@ -140,7 +140,7 @@ refused-play-no-part master (c ∷ calls) =
 abbrev SentOn : ℕ → Master → Type 0
 SentOn bus master = (exchange : Exchange) → master .activity ≡ UnderWay exchange → chosenBus (master .chosen) (exchange .node) ≡ bus
 
-abbrev After : ℕ → Handed → Type 0
+abbrev After : ℕ → MasterAfter → Type 0
 After bus h = SentOn (sentOn bus (h .answer)) (h .master)
 
 sends-there : (bus : ℕ) (chosen : List ℕ) (x : Exchange) → After bus (given (sent chosen x))
@@ -199,8 +199,8 @@ Goes master calls said last = (answers master calls ≡ said) × (run master cal
 goes : (master : Master) (c : Call) (calls : List Call) (step : Step) (said : List (Result Told)) (last : Master) → given step ≡ call master c
     → Goes (step .next) calls said last → Goes master (c ∷ calls) (value (step .told) ∷ said) last
 goes master c calls step said last e h = (
-  ap (λ (r : Handed). r .answer ∷ answers (r .master) calls) (sym e) ∙ ap (λ (l : List (Result Told)). value (step .told) ∷ l) (h .0),
-  ap (λ (r : Handed). run (r .master) calls) (sym e) ∙ h .1,
+  ap (λ (r : MasterAfter). r .answer ∷ answers (r .master) calls) (sym e) ∙ ap (λ (l : List (Result Told)). value (step .told) ∷ l) (h .0),
+  ap (λ (r : MasterAfter). run (r .master) calls) (sym e) ∙ h .1,
 )
 
 abbrev on : List ℕ → Kind → ℕ → ℕ → Master

@@ -1,4 +1,6 @@
-mod Buses
+pub mod Buses
 mod Moves
-mod Claims
+pub mod Claims
+mod Replies
 mod Answers
+mod Examples

@@ -18,9 +18,9 @@ use Rattle.master.specs.declared.Exchange.{Exchange}
 use Rattle.master.specs.declared.Activity.the-variants.{Idle, UnderWay}
 use Rattle.master.specs.declared.Master.{Master}
 use Rattle.master.specs.Masters.{planOf, switched, exchangeSound, sound}
-use Rattle.master.specs.Exchanges.{Handed, given, handed, gaveUp, done, underWay, sent, ended, starting, counts, replying, chosenAfter, again, expired, timingOut}
+use Rattle.master.specs.Exchanges.{MasterAfter, given, handedBack, gaveUp, done, underWay, sent, ended, starting, counts, replying, chosenAfter, again, expired, timingOut}
 
-abbrev pub refuses : Master → ℕ → Handed
+abbrev pub refuses : Master → ℕ → MasterAfter
 refuses master n = record { answer = refused n; master = master }
 
 -- ---- a timeout of an exchange
@@ -57,23 +57,23 @@ node-in-range master exchange s e = leb-true _ _ (each _ (ap exchangeSound (sym 
 module _ (master : Master) (kind : Kind) (node : ℕ) where
   pub start-state : sound master ≡ false → refuses master 21 ≡ starting master kind node
   unfolding starting
-  start-state s = ap (handed master) (stop refusal.State _ _ s)
+  start-state s = ap (handedBack master) (stop refusal.State _ _ s)
 
   module _ (s : sound master ≡ true) where
     pub start-field : 63 < node → refuses master 9 ≡ starting master kind node
     unfolding starting
-    start-field r = ap (handed master) (pass refusal.State _ _ s (stop refusal.Field _ _ (lt-leb node 63 r)))
+    start-field r = ap (handedBack master) (pass refusal.State _ _ s (stop refusal.Field _ _ (lt-leb node 63 r)))
 
     module _ (r : node ≤ 63) where
       pub start-busy : underWay (master .activity) ≡ true → refuses master 18 ≡ starting master kind node
       unfolding starting
       start-busy b =
-          ap (handed master) (pass refusal.State _ _ s (pass refusal.Field _ _ (le-leb node 63 r) (stop refusal.Busy _ _ (ap not b))))
+          ap (handedBack master) (pass refusal.State _ _ s (pass refusal.Field _ _ (le-leb node 63 r) (stop refusal.Busy _ _ (ap not b))))
 
       pub start-sends : underWay (master .activity) ≡ false → given (sent (master .chosen) (record { kind = kind; node = node; sends = 1 })) ≡ starting master kind node
       unfolding starting
       start-sends b =
-          ap (handed master)
+          ap (handedBack master)
           (pass refusal.State _ _ s (pass refusal.Field _ _ (le-leb node 63 r) (pass refusal.Busy _ _ (ap not b) (none-left _))))
 
 module _ (master : Master) (bus node function : ℕ) where
@@ -85,39 +85,39 @@ module _ (master : Master) (bus node function : ℕ) where
 
   pub reply-state : sound master ≡ false → refuses master 21 ≡ replying master bus node function
   unfolding replying
-  reply-state s = ap (handed master) (stop refusal.State _ _ s)
+  reply-state s = ap (handedBack master) (stop refusal.State _ _ s)
 
   module _ (s : sound master ≡ true) where
     pub reply-field : InRange false → refuses master 9 ≡ replying master bus node function
     unfolding replying
-    reply-field r = ap (handed master) (pass refusal.State _ _ s (stop refusal.Field _ _ r))
+    reply-field r = ap (handedBack master) (pass refusal.State _ _ s (stop refusal.Field _ _ r))
 
     module _ (r : InRange true) where
       pub reply-idle : underWay (master .activity) ≡ false → refuses master 19 ≡ replying master bus node function
       unfolding replying
-      reply-idle b = ap (handed master) (pass refusal.State _ _ s (pass refusal.Field _ _ r (stop refusal.Idle _ _ b)))
+      reply-idle b = ap (handedBack master) (pass refusal.State _ _ s (pass refusal.Field _ _ r (stop refusal.Idle _ _ b)))
 
       module _ (b : underWay (master .activity) ≡ true) where
         pub reply-other : Counts false → refuses master 20 ≡ replying master bus node function
         unfolding replying
         reply-other n =
-            ap (handed master) (pass refusal.State _ _ s (pass refusal.Field _ _ r (pass refusal.Idle _ _ b (stop refusal.NotAwaited _ _ n))))
+            ap (handedBack master) (pass refusal.State _ _ s (pass refusal.Field _ _ r (pass refusal.Idle _ _ b (stop refusal.NotAwaited _ _ n))))
 
         pub reply-done : Counts true → given (ended done (master .chosen)) ≡ replying master bus node function
         unfolding replying
         reply-done n =
-            ap (handed master)
+            ap (handedBack master)
             (pass refusal.State _ _ s (pass refusal.Field _ _ r (pass refusal.Idle _ _ b (pass refusal.NotAwaited _ _ n (none-left _)))))
 
 module _ (master : Master) where
   pub timeout-state : sound master ≡ false → refuses master 21 ≡ timingOut master
   unfolding timingOut
-  timeout-state s = ap (handed master) (stop refusal.State _ _ s)
+  timeout-state s = ap (handedBack master) (stop refusal.State _ _ s)
 
   pub timeout-idle : sound master ≡ true → underWay (master .activity) ≡ false → refuses master 19 ≡ timingOut master
   unfolding timingOut
-  timeout-idle s b = ap (handed master) (pass refusal.State _ _ s (stop refusal.Idle _ _ b))
+  timeout-idle s b = ap (handedBack master) (pass refusal.State _ _ s (stop refusal.Idle _ _ b))
 
   pub timeout-expires : sound master ≡ true → underWay (master .activity) ≡ true → given (expired (master .chosen) (master .activity)) ≡ timingOut master
   unfolding timingOut
-  timeout-expires s b = ap (handed master) (pass refusal.State _ _ s (pass refusal.Idle _ _ b (none-left _)))
+  timeout-expires s b = ap (handedBack master) (pass refusal.State _ _ s (pass refusal.Idle _ _ b (none-left _)))

@@ -1,5 +1,6 @@
--- What is proved of masters; proofs/Claims.antt and proofs/Answers.antt have the proofs. Document 01, "Filters, exchanges and watch".
-use Prim.Native.Nat.{ℕ, _≤_}
+-- What is proved of masters. Document 01, "Filters, exchanges and watch". Proofs: proofs/Claims.antt, proofs/Replies.antt (`Answered`,
+-- `Functions`, `BusesKept`) and proofs/Answers.antt (`OneAnswer`).
+use Prim.Native.Nat.{ℕ, _≤_, _<_}
 use mathlib.Core.Path.{_≡_}
 use mathlib.Core.Logic.{_≢_}
 use mathlib.Core.Bool.{true}
@@ -12,8 +13,8 @@ use Rattle.master.specs.declared.Exchange.{Exchange}
 use Rattle.master.specs.declared.Activity.the-variants.{Idle, UnderWay}
 use Rattle.master.specs.declared.Master.{Master}
 use Rattle.master.specs.declared.Answer.{Answer}
-use Rattle.master.specs.Masters.{newMaster, chosenBus, other, switched, sound}
-use Rattle.master.specs.Exchanges.{send, done, gaveUp, replying, meaning}
+use Rattle.master.specs.Masters.{newMaster, planOf, functionSent, chosenBus, other, switched, sound}
+use Rattle.master.specs.Exchanges.{send, done, gaveUp, starting, replying, timingOut, meaning}
 use Rattle.master.specs.Runs.{Call, start, timeout, call, answers, run, latest, notRefused, withoutRefusals}
 
 unfoldable pub NewIsSound : Type 0
@@ -48,6 +49,40 @@ Unanswered =
     let calls : List Call = start kind node ∷ replicate (length sends) timeout in
     (answers master calls ≡ map (λ bus. value (send bus)) sends ++ value gaveUp ∷ [])
     × (run master calls ≡ record { chosen = switched (master .chosen) node; activity = Idle })
+
+-- "awaits function 2", "awaits 4", "awaits 4"
+abbrev pub awaits : Kind → ℕ
+awaits Poll = 2
+awaits DataBlock = 4
+awaits Command = 4
+
+-- "A reply counts only from that node, with that function, on the bus of the latest send": after a start, and after each timeout that
+-- sends again, that reply is answered "done", which ends the exchange and leaves the chosen buses; and no other reply is. (Calls that are
+-- refused in between play no part.)
+unfoldable pub Answered : Type 0
+Answered =
+    (master : Master) (kind : Kind) (node timeouts none : ℕ) → sound master ≡ true → master .activity ≡ Idle → node ≤ 63
+    → timeouts < length (buses kind (chosenBus (master .chosen) node))
+    → let calls : List Call = start kind node ∷ replicate timeouts timeout in
+    let waiting : Master = run master calls in
+    let bus : ℕ = latest none (answers master calls) in
+    let ended : Master = record { chosen = waiting .chosen; activity = Idle } in
+    (replying waiting bus node (awaits kind) ≡ record { answer = value done; master = ended })
+    × ((b n f : ℕ) → replying waiting b n f .answer ≡ value done → (b ≡ bus) × (n ≡ node) × (f ≡ awaits kind))
+
+-- source Table 12: what each kind is sent with, and what it awaits, which is the reply to that: 2 to 1, 4 to 3
+unfoldable pub Functions : Type 0
+Functions =
+    ((functionSent Poll ≡ 1) × (planOf Poll .awaited ≡ 2))
+    × ((functionSent DataBlock ≡ 3) × (planOf DataBlock .awaited ≡ 4))
+    × ((functionSent Command ≡ 3) × (planOf Command .awaited ≡ 4))
+
+-- nothing but a timeout changes a chosen bus, and a timeout changes only that of the node of its exchange
+pub record BusesKept : Type 0 where
+  pub starts : (master : Master) (kind : Kind) (node : ℕ) → starting master kind node .master .chosen ≡ master .chosen
+  pub replies : (master : Master) (bus node function : ℕ) → replying master bus node function .master .chosen ≡ master .chosen
+  pub times-out : (master : Master) (exchange : Exchange) (node : ℕ) → master .activity ≡ UnderWay exchange → node ≢ exchange .node
+      → chosenBus (timingOut master .master .chosen) node ≡ chosenBus (master .chosen) node
 
 -- after any calls on a master that had no exchange, the bus of the latest send is the bus chosen for the node
 unfoldable pub LatestSend : Type 0

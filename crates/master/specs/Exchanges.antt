@@ -28,7 +28,7 @@ pub data Told : Type 0 where
   gaveUp : Told
 
 -- the answer, and the master handed back
-pub record Handed : Type 0 where
+pub record MasterAfter : Type 0 where
   pub answer : Result Told
   pub master : Master
 
@@ -37,13 +37,13 @@ pub record Step : Type 0 where
   pub told : Told
   pub next : Master
 
-abbrev pub given : Step → Handed
+abbrev pub given : Step → MasterAfter
 given step = record { answer = value (step .told); master = step .next }
 
 -- a refusal hands back the master handed in
-abbrev pub handed : Master → Result Step → Handed
-handed master (value step) = given step
-handed master (refused n) = record { answer = refused n; master = master }
+abbrev pub handedBack : Master → Result Step → MasterAfter
+handedBack master (value step) = given step
+handedBack master (refused n) = record { answer = refused n; master = master }
 
 abbrev pub underWay : Activity → Bool
 underWay Idle = false
@@ -59,9 +59,9 @@ abbrev pub ended : Told → List ℕ → Step
 ended told chosen = record { told = told; next = record { chosen = chosen; activity = Idle } }
 
 -- BUSY: start during an exchange
-unfoldable pub starting : Master → Kind → ℕ → Handed
+unfoldable pub starting : Master → Kind → ℕ → MasterAfter
 starting master kind node =
-    handed master
+    handedBack master
     (guarded
     (check refusal.State (sound master)
     ∷ check refusal.Field (leb node 63)
@@ -80,9 +80,9 @@ counts chosen bus node function (UnderWay exchange) =
     ∷ [])
 
 -- FIELD: bus, node or function out of range. IDLE: reply with none. NOTAWAITED: reply does not count
-unfoldable pub replying : Master → ℕ → ℕ → ℕ → Handed
+unfoldable pub replying : Master → ℕ → ℕ → ℕ → MasterAfter
 replying master bus node function =
-    handed master
+    handedBack master
     (guarded
     (check refusal.State (sound master)
     ∷ check refusal.Field (allTrue (leb bus 1 ∷ leb node 63 ∷ leb function 31 ∷ []))
@@ -109,9 +109,9 @@ expired chosen (UnderWay exchange) =
     (ended gaveUp (chosenAfter chosen exchange))
 
 -- IDLE: timeout with none
-unfoldable pub timingOut : Master → Handed
+unfoldable pub timingOut : Master → MasterAfter
 timingOut master =
-    handed master
+    handedBack master
     (guarded (check refusal.State (sound master) ∷ check refusal.Idle (underWay (master .activity)) ∷ [])
     (expired (master .chosen) (master .activity)))
 
@@ -123,5 +123,5 @@ meaning answered.GaveUp = value gaveUp
 meaning (answered.Refused name) = refused (number name)
 
 -- what the code hands back says
-abbrev pub after : Moved → Handed
-after r = record { answer = meaning (r .answer); master = r .master }
+abbrev pub masterAfter : Moved → MasterAfter
+masterAfter r = record { answer = meaning (r .answer); master = r .master }

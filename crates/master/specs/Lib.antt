@@ -2,3 +2,4 @@ pub mod Masters
 pub mod Exchanges
 pub mod Runs
 pub mod Claims
+pub mod Examples

@@ -24,6 +24,13 @@ planOf Poll = record { first = 1; total = 1; awaited = 2 }
 planOf DataBlock = record { first = 2; total = 2; awaited = 4 }
 planOf Command = record { first = 2; total = 3; awaited = 4 }
 
+-- the function that an exchange of a kind is sent with (source Table 12): 1 polls, and 2 replies to it; 3 carries a command or data that
+-- is to be answered, and 4 replies to it
+abbrev pub functionSent : Kind → ℕ
+functionSent Poll = 1
+functionSent DataBlock = 3
+functionSent Command = 3
+
 -- the bus chosen for a node
 unfoldable pub chosenBus : List ℕ → ℕ → ℕ
 chosenBus chosen node = getD chosen node 0

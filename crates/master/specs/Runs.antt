@@ -4,14 +4,14 @@ use mathlib.Core.List.{List, [], _∷_}
 use Rattle.format.specs.Refusals.{Result, value, refused}
 use Rattle.master.specs.declared.Kind.{Kind}
 use Rattle.master.specs.declared.Master.{Master}
-use Rattle.master.specs.Exchanges.{Told, send, done, gaveUp, Handed, starting, replying, timingOut}
+use Rattle.master.specs.Exchanges.{Told, send, done, gaveUp, MasterAfter, starting, replying, timingOut}
 
 pub data Call : Type 0 where
   start : (kind : Kind) (node : ℕ) → Call
   reply : (bus node function : ℕ) → Call
   timeout : Call
 
-abbrev pub call : Master → Call → Handed
+abbrev pub call : Master → Call → MasterAfter
 call master (start kind node) = starting master kind node
 call master (reply bus node function) = replying master bus node function
 call master timeout = timingOut master

@@ -5,14 +5,29 @@ ghost use mathlib.Core.Path.{_≡_};
 ghost use Prim.Native.Nat.{_≤_};
 ghost use Rattle.master.specs.declared.Activity.the-variants.{Idle, UnderWay};
 ghost use Rattle.master.specs.declared.Answer.the-variants as answered;
-ghost use Rattle.master.specs.Masters.{newMaster, planOf, other, chosenSound, exchangeSound, sound};
+ghost use Rattle.master.specs.Masters.{newMaster, planOf, functionSent, other, chosenSound, exchangeSound, sound};
 ghost use Rattle.master.specs.Exchanges as exchanges;
+ghost use Rattle.master.specs.Claims as claims;
+ghost use Rattle.master.specs.Examples.{Examples};
 
 // What is sent to a node.
 pub enum Kind {
     Poll,
     DataBlock,
     Command,
+}
+
+impl Kind {
+    // The function that an exchange of this kind is sent with.
+    pub fn function(self) -> u8
+        ensures { λ r. ⌜ r ≡ functionSent self ⌝ }
+    {
+        match self {
+            Kind::Poll => 1,
+            Kind::DataBlock => 3,
+            Kind::Command => 3,
+        }
+    }
 }
 
 // An exchange with a node, and how many times it was sent so far.
@@ -132,7 +147,7 @@ fn refuse(master: Master, name: Refusal) -> Moved
 // The exchange goes out on the bus chosen for its node.
 fn send(chosen: [u8; 64], exchange: Exchange) -> Moved
     requires { ⌜ exchange .node ≤ 63 ⌝ }
-    ensures { λ r. ⌜ exchanges.after r ≡ exchanges.given (exchanges.sent chosen exchange) ⌝ }
+    ensures { λ r. ⌜ exchanges.masterAfter r ≡ exchanges.given (exchanges.sent chosen exchange) ⌝ }
 {
     let at = exchange.node as usize;
     let bus = chosen[at];
@@ -186,7 +201,7 @@ fn chosen_after(mut chosen: [u8; 64], exchange: Exchange) -> [u8; 64]
 // A timeout of an exchange under way: sent again, or given up.
 fn expire(chosen: [u8; 64], exchange: Exchange) -> Moved
     requires { ⌜ exchange .node ≤ 63 ⌝ }
-    ensures { λ r. ⌜ exchanges.after r ≡ exchanges.given (exchanges.expired chosen (UnderWay exchange)) ⌝ }
+    ensures { λ r. ⌜ exchanges.masterAfter r ≡ exchanges.given (exchanges.expired chosen (UnderWay exchange)) ⌝ }
 {
     let next = chosen_after(chosen, exchange);
     let kind = exchange.kind;
@@ -227,7 +242,7 @@ impl Master {
 
     // Starts an exchange with a node and answers the bus to send on, or refuses: STATE, FIELD, BUSY.
     pub fn start(self, kind: Kind, node: u8) -> Moved
-        ensures { λ r. ⌜ exchanges.after r ≡ exchanges.starting self kind node ⌝ }
+        ensures { λ r. ⌜ exchanges.masterAfter r ≡ exchanges.starting self kind node ⌝ }
     {
         let activity = self.activity;
         let chosen = self.chosen;
@@ -252,7 +267,7 @@ impl Master {
     // A reply has come in: done if it is the one awaited, else refused: STATE, FIELD, IDLE,
     // NOTAWAITED.
     pub fn reply(self, bus: u8, node: u8, function: u8) -> Moved
-        ensures { λ r. ⌜ exchanges.after r ≡ exchanges.replying self bus node function ⌝ }
+        ensures { λ r. ⌜ exchanges.masterAfter r ≡ exchanges.replying self bus node function ⌝ }
     {
         let activity = self.activity;
         let chosen = self.chosen;
@@ -276,7 +291,7 @@ impl Master {
 
     // No reply came in time: answers the bus to send on again, or gave up, or refuses: STATE, IDLE.
     pub fn timeout(self) -> Moved
-        ensures { λ r. ⌜ exchanges.after r ≡ exchanges.timingOut self ⌝ }
+        ensures { λ r. ⌜ exchanges.masterAfter r ≡ exchanges.timingOut self ⌝ }
     {
         let activity = self.activity;
         let chosen = self.chosen;
@@ -289,3 +304,19 @@ impl Master {
         }
     }
 }
+
+// The claims of this crate. It does nothing: its contract ties each claim to its proof.
+pub fn promised()
+    ensures new_is_sound { λ _. ⌜ claims.NewIsSound ⌝ }
+    ensures stays_sound { λ _. ⌜ claims.StaysSound ⌝ }
+    ensures refused_keeps { λ _. ⌜ claims.RefusedKeeps ⌝ }
+    ensures refused_play_no_part { λ _. ⌜ claims.RefusedPlayNoPart ⌝ }
+    ensures unanswered { λ _. ⌜ claims.Unanswered ⌝ }
+    ensures answered { λ _. ⌜ claims.Answered ⌝ }
+    ensures functions { λ _. ⌜ claims.Functions ⌝ }
+    ensures buses_kept { λ _. ⌜ claims.BusesKept ⌝ }
+    ensures latest_send { λ _. ⌜ claims.LatestSend ⌝ }
+    ensures late_reply { λ _. ⌜ claims.LateReply ⌝ }
+    ensures one_answer { λ _. ⌜ claims.OneAnswer ⌝ }
+    ensures examples { λ _. ⌜ Examples ⌝ }
+{}

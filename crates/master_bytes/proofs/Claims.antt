@@ -8,7 +8,7 @@ use borrow.Author.Tests.{eq-eqb, eqb-true, eqb-false, leb-true}
 use lib.Dec.{eqb, leb}
 use lib.ListN.{length, take, drop, getD, length-append, take-append-drop, drop-of-length-le}
 use lib.Seq.{take-at, drop-cons, getD-append-add, length-take-le}
-use Rattle.format.specs.Refusals.{Result, value, refused, Check, guarded}
+use Rattle.format.specs.Refusals.{Result, value, refused, number}
 use Rattle.format.specs.Tests.{allTrue}
 use Rattle.format.proofs.Tests.{each, from-each}
 use Rattle.master.specs.declared.Kind.{Kind}
@@ -17,18 +17,30 @@ use Rattle.master.specs.declared.Exchange.{Exchange}
 use Rattle.master.specs.declared.Activity.{Activity}
 use Rattle.master.specs.declared.Activity.the-variants.{Idle, UnderWay}
 use Rattle.master.specs.declared.Master.{Master}
+use Rattle.master.specs.declared.Moved.{Moved}
+use Rattle.master.specs.Masters.{newMaster}
 use Rattle.master.specs.Exchanges as exchanges
+use Rattle.master.specs.Runs.{Call, start, reply, timeout, call}
+use Rattle.master.specs.Claims as masters
+use Rattle.master.proofs.Claims.{refused-keeps as master-keeps}
 use Rattle.master_bytes.specs.States.{kindNumber, activityBytes, stateBytes, kindOf, activityOf, masterIn, activityWritten, isState}
-use Rattle.master_bytes.specs.Calls.{Handed, handed, notState, onState, kindHandedIn, startingAs, starting, replying, timingOut}
+use Rattle.master_bytes.specs.Calls.{MasterBytesAfter, movedInBytes, notState, onState, kindHandedIn, startingAs, renew, starting, replying, timingOut}
+use Rattle.master_bytes.specs.Parts.{RefusedIsThere}
 use Rattle.master_bytes.specs.Claims.{ReadBack, WrittenIsState, WrittenBack, NoMasters, RefusedKeeps}
 use Rattle.master_bytes.proofs.Laws.{three, sized, no-master}
 
 -- ---- the three bytes of an exchange
 
-kind-back : (kind : Kind) → (eqb (kindNumber kind) 0 ≡ false) × (leb (kindNumber kind) 3 ≡ true) × (kindOf (kindNumber kind) ≡ kind)
-kind-back Poll = (refl, refl, refl)
-kind-back DataBlock = (refl, refl, refl)
-kind-back Command = (refl, refl, refl)
+kind-back : (kind : Kind) → (eqb (kindNumber kind) 0 ≡ false) × (kindOf (kindNumber kind) ≡ kind)
+kind-back Poll = (refl, refl)
+kind-back DataBlock = (refl, refl)
+kind-back Command = (refl, refl)
+
+is-written : (kind : Kind) (node sends : ℕ) → activityWritten (kindNumber kind) node sends ≡ true
+unfolding activityWritten
+is-written Poll node sends = refl
+is-written DataBlock node sends = refl
+is-written Command node sends = refl
 
 -- what is read of an exchange's bytes
 abbrev OfBytes : {A : Type 0} → (ℕ → ℕ → ℕ → A) → List ℕ → A
@@ -39,7 +51,7 @@ unfolding activityWritten allTrue
 activity-back Idle = (refl, refl)
 activity-back (UnderWay exchange) =
     let k = kind-back (exchange .kind) in
-    (rw (k .0, k .2), rw (k .0, k .1))
+    (rw (k .0, k .1), is-written (exchange .kind) (exchange .node) (exchange .sends))
 
 kind-again : (kind : ℕ) → 1 ≤ kind → kind ≤ 3 → kindNumber (kindOf kind) ≡ kind
 kind-again kind low high = go (eqb kind 1) (eqb kind 2) refl refl
@@ -81,7 +93,7 @@ module _ (master : Master) (n : length (master .chosen) ≡ 64) where
 pub read-back : ReadBack
 unfolding ReadBack masterIn
 read-back master n =
-    rw (ahead master n, behind master n 0, behind master n 1, behind master n 2, activity-back (master .activity) .0)
+    simp (ahead master n, behind master n 0, behind master n 1, behind master n 2, activity-back (master .activity) .0)
 
 pub written-is-state : WrittenIsState
 unfolding WrittenIsState isState
@@ -113,33 +125,51 @@ no-masters state none kind bus node function = (sym (no-master state _ is-none),
     is-none = go (isState state) refl
 
 -- a refusal hands back the master handed in
-kept : (master : Master) (n : ℕ) (checks : List Check) (step : exchanges.Step) → exchanges.handed master (guarded checks step) .answer ≡ refused n
-    → exchanges.handed master (guarded checks step) .master ≡ master
-kept master n checks step = go (guarded checks step)
-  where
-    go : (r : Result exchanges.Step) → exchanges.handed master r .answer ≡ refused n → exchanges.handed master r .master ≡ master
-    go (value given) e = let z : _≡_ {A = ℕ} 0 1 = cc in absurd (omega arith)
-    go (refused m) e = refl
-
 start-kept : (master : Master) (n node : ℕ) (kind : Result Kind) → startingAs master node kind .answer ≡ refused n → startingAs master node kind .master ≡ master
-unfolding exchanges.starting
-start-kept master n node (value kind) = kept master n _ _
+unfolding masters.RefusedKeeps
+start-kept master n node (value kind) = master-keeps master (start kind node) n
 start-kept master n node (refused m) = λ e. refl
 
 -- and its bytes are those handed in
-keeps : (state : List ℕ) (n : ℕ) (given : exchanges.Handed) → (given .answer ≡ refused n → given .master ≡ masterIn state)
+keeps : (state : List ℕ) (n : ℕ) (given : exchanges.MasterAfter) → (given .answer ≡ refused n → given .master ≡ masterIn state)
     → onState state given .answer ≡ refused n → onState state given .state ≡ state
 unfolding WrittenBack
 keeps state n given same = go (isState state) refl
   where
-    left : Bool → Handed exchanges.Told
-    left b = cond b (handed given) (notState state)
+    left : Bool → MasterBytesAfter exchanges.Told
+    left b = cond b (movedInBytes given) (notState state)
 
     go : (b : Bool) → isState state ≡ b → left b .answer ≡ refused n → left b .state ≡ state
     go true s e = ap stateBytes (same e) ∙ written-back state s
     go false s e = refl
 
+renew-keeps : (state : List ℕ) (n : ℕ) → renew state .answer ≡ refused n → renew state .state ≡ state
+unfolding renew
+renew-keeps state n = go (eqb (length state) 67)
+  where
+    left : Bool → MasterBytesAfter ℕ
+    left b = cond b (record { answer = value 0; state = stateBytes newMaster }) (notState state)
+
+    go : (b : Bool) → left b .answer ≡ refused n → left b .state ≡ state
+    go true e = let z : _≡_ {A = ℕ} 0 1 = cc in absurd (omega arith)
+    go false e = refl
+
 pub refused-keeps : RefusedKeeps
-unfolding RefusedKeeps starting replying timingOut exchanges.replying exchanges.timingOut
-refused-keeps state n kind bus node function =
-    (keeps state n _ (start-kept (masterIn state) n node (kindHandedIn (masterIn state) kind)), (keeps state n _ (kept (masterIn state) n _ _), keeps state n _ (kept (masterIn state) n _ _)))
+unfolding RefusedKeeps starting replying timingOut masters.RefusedKeeps
+refused-keeps state n = (
+  renew-keeps state n,
+  λ kind bus node function.
+      let master = masterIn state in (
+        keeps state n _ (start-kept master n node (kindHandedIn master kind)),
+        (keeps state n _ (master-keeps master (reply bus node function) n), keeps state n _ (master-keeps master timeout n)),
+      ),
+)
+
+-- so it does not have to be stored
+pub there : (state : List ℕ) → isState state ≡ true → (moved : Moved) (c : Call) → exchanges.masterAfter moved ≡ call (masterIn state) c
+    → RefusedIsThere state moved
+unfolding RefusedIsThere WrittenBack masters.RefusedKeeps
+there state s moved c e name r =
+    let said = ap (λ (h : exchanges.MasterAfter). h .answer) (sym e) ∙ ap exchanges.meaning r in
+    let kept = master-keeps (masterIn state) c (number name) said in
+    ap (λ (h : exchanges.MasterAfter). stateBytes (h .master)) e ∙ ap stateBytes kept ∙ written-back state s

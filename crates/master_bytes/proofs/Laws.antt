@@ -13,7 +13,7 @@ use Rattle.master.specs.declared.Master.{Master}
 use Rattle.master.specs.Masters.{sound}
 use Rattle.master.specs.Exchanges as exchanges
 use Rattle.master_bytes.specs.States.{activityBytes, kindOf, isState}
-use Rattle.master_bytes.specs.Calls.{handed, notState, onState, isKind, kindHandedIn, startingAs}
+use Rattle.master_bytes.specs.Calls.{movedInBytes, notState, onState, isKind, kindHandedIn, startingAs}
 
 pub three : (activity : Activity) → length (activityBytes activity) ≡ 3
 three Idle = refl
@@ -24,11 +24,11 @@ module _ (state : List ℕ) where
   unfolding isState
   sized s = eqb-true (length state) 67 (each _ s .0)
 
-  module _ (given : exchanges.Handed) where
+  module _ (given : exchanges.MasterAfter) where
     pub no-master : isState state ≡ false → notState state ≡ onState state given
     no-master s = rw s
 
-    pub a-master : isState state ≡ true → handed given ≡ onState state given
+    pub a-master : isState state ≡ true → movedInBytes given ≡ onState state given
     a-master s = rw s
 
 -- node 64 is refused where the kind is to be: after STATE, before BUSY

@@ -1,2 +1,4 @@
 mod Laws
 mod Claims
+mod Runs
+mod Examples

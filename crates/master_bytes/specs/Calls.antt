@@ -19,24 +19,24 @@ use Rattle.master.specs.Exchanges as exchanges
 use Rattle.master_bytes.specs.States.{stateBytes, masterIn, isState, kindOf}
 
 -- the answer, and the lent bytes afterwards
-pub record Handed (A : Type 0) : Type 0 where
+pub record MasterBytesAfter (A : Type 0) : Type 0 where
   pub answer : Result A
   pub state : List ℕ
 
 -- what a call on the master gives, the next master as bytes
-abbrev pub handed : exchanges.Handed → Handed exchanges.Told
-handed given = record { answer = given .answer; state = stateBytes (given .master) }
+abbrev pub movedInBytes : exchanges.MasterAfter → MasterBytesAfter exchanges.Told
+movedInBytes given = record { answer = given .answer; state = stateBytes (given .master) }
 
 -- bytes that are no master's are refused and stay
-abbrev pub notState : {A : Type 0} → List ℕ → Handed A
+abbrev pub notState : {A : Type 0} → List ℕ → MasterBytesAfter A
 notState state = record { answer = refused (number State); state = state }
 
 -- any 67 bytes become a new master's; the answer is 0
-unfoldable pub renew : List ℕ → Handed ℕ
+unfoldable pub renew : List ℕ → MasterBytesAfter ℕ
 renew state = cond (eqb (length state) 67) (record { answer = value 0; state = stateBytes newMaster }) (notState state)
 
-abbrev pub onState : List ℕ → exchanges.Handed → Handed exchanges.Told
-onState state given = cond (isState state) (handed given) (notState state)
+abbrev pub onState : List ℕ → exchanges.MasterAfter → MasterBytesAfter exchanges.Told
+onState state given = cond (isState state) (movedInBytes given) (notState state)
 
 -- a kind is handed in as its number
 abbrev pub isKind : ℕ → Bool
@@ -46,22 +46,22 @@ isKind n = allTrue (leb 1 n ∷ leb n 3 ∷ [])
 abbrev pub kindHandedIn : Master → ℕ → Result Kind
 kindHandedIn master n = guarded (check State (sound master) ∷ check Field (isKind n) ∷ []) (kindOf n)
 
-abbrev pub startingAs : Master → (node : ℕ) → Result Kind → exchanges.Handed
+abbrev pub startingAs : Master → (node : ℕ) → Result Kind → exchanges.MasterAfter
 startingAs master node (value kind) = exchanges.starting master kind node
 startingAs master node (refused n) = record { answer = refused n; master = master }
 
-unfoldable pub starting : List ℕ → (kind node : ℕ) → Handed exchanges.Told
+unfoldable pub starting : List ℕ → (kind node : ℕ) → MasterBytesAfter exchanges.Told
 starting state kind node = onState state (startingAs (masterIn state) node (kindHandedIn (masterIn state) kind))
 
-unfoldable pub replying : List ℕ → (bus node function : ℕ) → Handed exchanges.Told
+unfoldable pub replying : List ℕ → (bus node function : ℕ) → MasterBytesAfter exchanges.Told
 replying state bus node function = onState state (exchanges.replying (masterIn state) bus node function)
 
-unfoldable pub timingOut : List ℕ → Handed exchanges.Told
+unfoldable pub timingOut : List ℕ → MasterBytesAfter exchanges.Told
 timingOut state = onState state (exchanges.timingOut (masterIn state))
 
 -- what the code's answer says, and the bytes afterwards
-abbrev pub renewed : Outcome → List ℕ → Handed ℕ
+abbrev pub renewed : Outcome → List ℕ → MasterBytesAfter ℕ
 renewed r state = record { answer = refusals.meaning r; state = state }
 
-abbrev pub after : Answer → List ℕ → Handed exchanges.Told
-after r state = record { answer = exchanges.meaning r; state = state }
+abbrev pub masterBytesAfter : Answer → List ℕ → MasterBytesAfter exchanges.Told
+masterBytesAfter r state = record { answer = exchanges.meaning r; state = state }

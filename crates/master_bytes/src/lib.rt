@@ -15,6 +15,9 @@ ghost use lib.ListN.{length, take};
 ghost use Rattle.master.specs.Exchanges as exchanges;
 ghost use Rattle.master_bytes.specs.States.{kindNumber, activityBytes, stateBytes, kindOf, activityOf, masterIn, activityWritten, isState};
 ghost use Rattle.master_bytes.specs.Calls as calls;
+ghost use Rattle.master_bytes.specs.Parts.{RefusedIsThere};
+ghost use Rattle.master_bytes.specs.Claims as claims;
+ghost use Rattle.master_bytes.specs.Examples.{Examples};
 
 // The bytes of a state.
 pub struct State;
@@ -122,14 +125,20 @@ fn load(state: &[u8]) -> Master
     }
 }
 
-// Writes the master that a call hands back, and answers as it does.
+// Answers as a call does, and writes the master that it hands back; of a refusal, whose master is in the bytes
+// already, nothing is stored.
 fn hand_back(state: &mut [u8], moved: Moved) -> Answer
     requires { ⌜ length (now state) ≡ 67 ⌝ }
-    ensures { λ r. ⌜ calls.after r (now (state .exit)) ≡ calls.handed (exchanges.after moved) ⌝ }
+    requires { ⌜ RefusedIsThere (now state) moved ⌝ }
+    ensures { λ r. ⌜ calls.masterBytesAfter r (now (state .exit)) ≡ calls.movedInBytes (exchanges.masterAfter moved) ⌝ }
 {
+    let answer = moved.answer;
     let master = moved.master;
+    if let Answer::Refused(_) = answer {
+        return answer;
+    }
     put(state, master);
-    moved.answer
+    answer
 }
 
 // Makes the bytes a new master's: bus A chosen for every node, no exchange. Answers 0, or refuses: STATE.
@@ -155,7 +164,7 @@ fn node_for(kind: u8, node: u8) -> u8
 
 // Starts an exchange of a kind, 1 to 3, with a node, or refuses: STATE, FIELD, BUSY.
 pub fn start(state: &mut [u8], kind: u8, node: u8) -> Answer
-    ensures { λ r. ⌜ calls.after r (now (state .exit)) ≡ calls.starting (now (state .entry)) kind node ⌝ }
+    ensures { λ r. ⌜ calls.masterBytesAfter r (now (state .exit)) ≡ calls.starting (now (state .entry)) kind node ⌝ }
 {
     if !is_state(state) {
         return Answer::Refused(Refusal::State);
@@ -166,7 +175,7 @@ pub fn start(state: &mut [u8], kind: u8, node: u8) -> Answer
 
 // A reply has come in: done if it is the one awaited, else refused: STATE, FIELD, IDLE, NOTAWAITED.
 pub fn reply(state: &mut [u8], bus: u8, node: u8, function: u8) -> Answer
-    ensures { λ r. ⌜ calls.after r (now (state .exit)) ≡ calls.replying (now (state .entry)) bus node function ⌝ }
+    ensures { λ r. ⌜ calls.masterBytesAfter r (now (state .exit)) ≡ calls.replying (now (state .entry)) bus node function ⌝ }
 {
     if !is_state(state) {
         return Answer::Refused(Refusal::State);
@@ -177,7 +186,7 @@ pub fn reply(state: &mut [u8], bus: u8, node: u8, function: u8) -> Answer
 
 // No reply came in time: answers the bus to send on again, or gave up, or refuses: STATE, IDLE.
 pub fn timeout(state: &mut [u8]) -> Answer
-    ensures { λ r. ⌜ calls.after r (now (state .exit)) ≡ calls.timingOut (now (state .entry)) ⌝ }
+    ensures { λ r. ⌜ calls.masterBytesAfter r (now (state .exit)) ≡ calls.timingOut (now (state .entry)) ⌝ }
 {
     if !is_state(state) {
         return Answer::Refused(Refusal::State);
@@ -185,3 +194,15 @@ pub fn timeout(state: &mut [u8]) -> Answer
     let moved = load(state).timeout();
     hand_back(state, moved)
 }
+
+// The claims of this crate. It does nothing: its contract ties each claim to its proof.
+pub fn promised()
+    ensures read_back { λ _. ⌜ claims.ReadBack ⌝ }
+    ensures written_is_state { λ _. ⌜ claims.WrittenIsState ⌝ }
+    ensures written_back { λ _. ⌜ claims.WrittenBack ⌝ }
+    ensures no_masters { λ _. ⌜ claims.NoMasters ⌝ }
+    ensures refused_keeps { λ _. ⌜ claims.RefusedKeeps ⌝ }
+    ensures as_run { λ _. ⌜ claims.AsRun ⌝ }
+    ensures late_reply { λ _. ⌜ claims.LateReplyOnBytes ⌝ }
+    ensures examples { λ _. ⌜ Examples ⌝ }
+{}

@@ -48,9 +48,10 @@ use Rattle.master.specs.declared.Kind.{Kind}
 use Rattle.master.specs.declared.Activity.{Activity}
 use Rattle.master.specs.declared.Activity.the-variants as activity
 use Rattle.master.specs.declared.Master.{Master}
-use Rattle.master.specs.Masters.{planOf, chosenBus, switched, busesInRange, chosenSound, sound}
+use Rattle.master.specs.Masters.{planOf, chosenBus, switched, chosenSound, sound}
 use Rattle.master.specs.Exchanges.{Told}
 use Rattle.master.specs.Exchanges as exchanges
+use Rattle.master.proofs.Buses.{bus-at}
 use Rattle.master_bytes.specs.States.{masterIn}
 use Rattle.master_bytes.specs.States as bytes
 use Rattle.master_bytes.specs.Calls as masters
@@ -275,25 +276,19 @@ accepts row id =
 
 -- ---- a master
 
-abbrev Tells : masters.Handed Told → Type 0
+abbrev Tells : masters.MasterBytesAfter Told → Type 0
 Tells h = Within (BusUpTo 1) (h .answer)
 
 new-master : (state : List ℕ) → UpTo 0 (masters.renew state .answer)
 unfolding masters.renew
 new-master state =
-    either (λ (h : masters.Handed ℕ). UpTo 0 (h .answer)) (eqb (length state) 67) _ _ (omega arith) (a-refusal State)
+    either (λ (h : masters.MasterBytesAfter ℕ). UpTo 0 (h .answer)) (eqb (length state) 67) _ _ (omega arith) (a-refusal State)
 
 abbrev Gives : Master → Result exchanges.Step → Type 0
-Gives master r = Within (BusUpTo 1) (exchanges.handed master r .answer)
+Gives master r = Within (BusUpTo 1) (exchanges.handedBack master r .answer)
 
-on-state : (state : List ℕ) (given : exchanges.Handed) → Within (BusUpTo 1) (given .answer) → Tells (masters.onState state given)
+on-state : (state : List ℕ) (given : exchanges.MasterAfter) → Within (BusUpTo 1) (given .answer) → Tells (masters.onState state given)
 on-state state given h = either Tells (bytes.isState state) _ _ h (a-refusal State)
-
-bus-small : (buses : List ℕ) (node : ℕ) → busesInRange buses ≡ true → getD buses node 0 ≤ 1
-unfolding busesInRange
-bus-small [] node e = omega arith
-bus-small (bus ∷ buses) zero e = leb-true _ _ (each _ e .0)
-bus-small (bus ∷ buses) (suc node) e = bus-small buses node (each _ e .1 .0)
 
 set-small : (buses : List ℕ) (node bus : ℕ) → bus ≤ 1 → getD (set buses node bus) node 0 ≤ 1
 set-small [] node bus h = omega arith
@@ -302,7 +297,7 @@ set-small (x ∷ buses) (suc node) bus h = set-small buses node bus h
 
 chosen-small : (master : Master) → sound master ≡ true → (node : ℕ) → chosenBus (master .chosen) node ≤ 1
 unfolding sound chosenSound chosenBus
-chosen-small master s node = bus-small (master .chosen) node (each _ (each _ s .0) .1 .0)
+chosen-small master s node = bus-at (master .chosen) node (each _ (each _ s .0) .1 .0)
 
 expired-small : (master : Master) → sound master ≡ true → (a : Activity) → BusUpTo 1 (exchanges.expired (master .chosen) a .told)
 unfolding exchanges.expired exchanges.chosenAfter switched chosenBus
@@ -337,8 +332,8 @@ times-out state =
 
 -- ---- a watch
 
-on-watch : (most : ℕ) (state : List ℕ) (given : watches.Handed) → UpTo most (given .answer) → UpTo most (watches.onState state given .answer)
-on-watch most state given h = either (λ (g : watches.Handed). UpTo most (g .answer)) (watches.isState state) _ _ h (a-refusal State)
+on-watch : (most : ℕ) (state : List ℕ) (given : watches.WatchBytesAfter) → UpTo most (given .answer) → UpTo most (watches.onState state given .answer)
+on-watch most state given h = either (λ (g : watches.WatchBytesAfter). UpTo most (g .answer)) (watches.isState state) _ _ h (a-refusal State)
 
 new-watch : (state : List ℕ) (time : ℕ) → UpTo 0 (watches.renew state time .answer)
 unfolding watches.renew
@@ -348,7 +343,7 @@ hears : (state : List ℕ) (bus time : ℕ) → UpTo 1 (watches.hearing state bu
 unfolding watches.hearing watching.hearing
 hears state bus time =
     on-watch 1 state _
-    (by-checks (λ r. UpTo 1 (watching.handed (watches.watchIn state) time r .answer)) _ _ (λ p. leb-true _ _ (p .0)) a-refusal)
+    (by-checks (λ r. UpTo 1 (watching.afterHearing (watches.watchIn state) time r .answer)) _ _ (λ p. leb-true _ _ (p .0)) a-refusal)
 
 resets-small : (a b : Bool) → watches.resets a b ≤ 3
 resets-small false false = omega arith

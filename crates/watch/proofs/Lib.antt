@@ -1,2 +1,2 @@
 mod Times
-mod Claims
+pub mod Claims

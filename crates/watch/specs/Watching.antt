@@ -13,40 +13,40 @@ use Rattle.watch.specs.declared.Heard.{Heard}
 use Rattle.watch.specs.declared.Checked.{Checked}
 
 abbrev pub newWatch : ℕ → Watch
-newWatch now = record { a = now; b = now }
+newWatch time = record { a = time; b = time }
 
 -- bus 0 is A, 1 is B
 abbrev pub withLast : Watch → ℕ → ℕ → Watch
-withLast watch bus now = cond (eqb bus 0) (record { a = now; b = watch .b }) (record { a = watch .a; b = now })
+withLast watch bus time = cond (eqb bus 0) (record { a = time; b = watch .b }) (record { a = watch .a; b = time })
 
 -- the answer, and the watch handed back
-pub record Handed : Type 0 where
+pub record WatchAfter : Type 0 where
   pub answer : Result ℕ
   pub watch : Watch
 
 -- the bus heard gets the time; a refusal hands back the watch handed in
-abbrev pub handed : Watch → ℕ → Result ℕ → Handed
-handed watch now (value bus) = record { answer = value bus; watch = withLast watch bus now }
-handed watch now (refused n) = record { answer = refused n; watch = watch }
+abbrev pub afterHearing : Watch → ℕ → Result ℕ → WatchAfter
+afterHearing watch time (value bus) = record { answer = value bus; watch = withLast watch bus time }
+afterHearing watch time (refused n) = record { answer = refused n; watch = watch }
 
-unfoldable pub hearing : Watch → ℕ → ℕ → Handed
-hearing watch bus now = handed watch now (guarded (check Field (leb bus 1) ∷ []) bus)
+unfoldable pub hearing : Watch → ℕ → ℕ → WatchAfter
+hearing watch bus time = afterHearing watch time (guarded (check Field (leb bus 1) ∷ []) bus)
 
 -- the time since: the difference modulo 2^32
 unfoldable pub since : ℕ → ℕ → ℕ
-since last now = (now + (2 ^ 32 - last)) % 2 ^ 32
+since last time = (time + (2 ^ 32 - last)) % 2 ^ 32
 
 -- at 16,000 or more the bus is to be reset
 unfoldable pub silent : ℕ → ℕ → Bool
-silent last now = leb 16000 (since last now)
+silent last time = leb 16000 (since last time)
 
--- each bus by itself; the last time of one that is to be reset becomes now
+-- each bus by itself; the last time of one that is to be reset becomes the time of the check
 unfoldable pub checking : Watch → ℕ → Checked
-checking watch now =
-    let resetA : Bool = silent (watch .a) now in
-    let resetB : Bool = silent (watch .b) now in
-    record { watch = record { a = cond resetA now (watch .a); b = cond resetB now (watch .b) }; a = resetA; b = resetB }
+checking watch time =
+    let resetA : Bool = silent (watch .a) time in
+    let resetB : Bool = silent (watch .b) time in
+    record { watch = record { a = cond resetA time (watch .a); b = cond resetB time (watch .b) }; a = resetA; b = resetB }
 
 -- what the code hands back says
-abbrev pub after : Heard → Handed
-after r = record { answer = meaning (r .answer); watch = r .watch }
+abbrev pub watchAfter : Heard → WatchAfter
+watchAfter r = record { answer = meaning (r .answer); watch = r .watch }

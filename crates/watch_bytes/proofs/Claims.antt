@@ -1,19 +1,25 @@
--- Each way back, and what a refusal leaves.
+-- Each way back, what a refusal and a check without a reset leave, and the examples.
 use Prim.Native.Nat.{ℕ}
-use mathlib.Core.Path.{_≡_, refl, ap, _∙_}
+use mathlib.Core.Path.{_≡_, refl, sym, ap, _∙_}
 use mathlib.Core.Bool.{Bool, true, false, cond}
 use mathlib.Core.List.{List, [], _++_, append-nil}
 use native.Mathlib.Omega.{arith}
 use borrow.Author.Tests.{eqb-true}
 use lib.ListN.{length, length-append}
 use lib.Seq.{take-all, take-add}
-use Rattle.format.specs.Refusals.{Result, value, refused, Check, guarded}
-use Rattle.words.specs.Words.{wordBytes, wordAt}
+use Rattle.format.specs.declared.Refusal.{Refusal}
+use Rattle.format.specs.declared.Outcome.the-variants.{Refused}
+use Rattle.format.specs.Refusals.{refused, number, guarded, meaning}
+use Rattle.frame.specs.Claims.{Bytes}
+use Rattle.words.specs.Words.{wordBytes, wordOf, wordAt}
 use Rattle.words.proofs.Laws as words
-use Rattle.watch.specs.declared.Watch.{Watch}
+use Rattle.watch.specs.declared.Heard.{Heard}
+use Rattle.watch.specs.declared.Checked.{Checked}
 use Rattle.watch.specs.Watching as watching
-use Rattle.watch_bytes.specs.States.{Handed, stateBytes, watchIn, isState, handed, notState, hearing}
-use Rattle.watch_bytes.specs.Claims.{ReadBack, WrittenIsState, WrittenBack, RefusedKeeps}
+use Rattle.watch.specs.Claims as watches
+use Rattle.watch.proofs.Claims.{refused-keeps as watch-keeps, no-reset-keeps}
+use Rattle.watch_bytes.specs.States.{WatchBytesAfter, stateBytes, watchIn, isState, notState, onState, renew, hearing, resets, checking}
+use Rattle.watch_bytes.specs.Claims.{ReadBack, WrittenIsState, WrittenBack, RefusedKeeps, Examples}
 
 pub read-back : ReadBack
 unfolding ReadBack stateBytes watchIn
@@ -21,7 +27,7 @@ read-back watch a b =
     let first : wordAt (wordBytes (watch .a) ++ wordBytes (watch .b)) 0 ≡ watch .a = words.read-back (watch .a) (wordBytes (watch .b)) a in
     let second : wordAt (wordBytes (watch .a) ++ wordBytes (watch .b)) 4 ≡ watch .b =
     rw append-nil at (words.read-after (wordBytes (watch .a)) (watch .b) [] 4 (words.four (watch .a)) b) in
-    rw (first, second)
+    simp (first, second)
 
 pub written-is-state : WrittenIsState
 unfolding WrittenIsState stateBytes isState
@@ -33,26 +39,59 @@ written-back state bytes h =
     let n : length state ≡ 8 = eqb-true _ _ h in
     rw (words.written-at state bytes 0 (omega arith), words.written-at state bytes 4 (omega arith), ← take-add 4 4 state) (take-all 8 state (omega arith))
 
--- a refusal hands back the watch handed in
-kept : (watch : Watch) (time n : ℕ) (checks : List Check) (bus : ℕ) → watching.handed watch time (guarded checks bus) .answer ≡ refused n
-    → watching.handed watch time (guarded checks bus) .watch ≡ watch
-kept watch time n checks bus = go (guarded checks bus)
-  where
-    go : (r : Result ℕ) → watching.handed watch time r .answer ≡ refused n → watching.handed watch time r .watch ≡ watch
-    go (value heard) e = let z : _≡_ {A = ℕ} 0 1 = cc in absurd (omega arith)
-    go (refused m) e = refl
+-- ---- the calls
 
-hearing-kept : (watch : Watch) (bus time n : ℕ) → watching.hearing watch bus time .answer ≡ refused n → watching.hearing watch bus time .watch ≡ watch
-unfolding watching.hearing
-hearing-kept watch bus time n = kept watch time n _ bus
+-- of bytes of a watch, what is refused leaves the watch, and so the bytes
+pub there : (state : List ℕ) → Bytes state → isState state ≡ true → (bus time : ℕ) (heard : Heard) (name : Refusal)
+    → watching.watchAfter heard ≡ watching.hearing (watchIn state) bus time → heard .answer ≡ Refused name → stateBytes (heard .watch) ≡ state
+unfolding watches.RefusedKeeps WrittenBack
+there state bytes s bus time heard name e r =
+    let said = ap (λ (h : watching.WatchAfter). h .answer) (sym e) ∙ ap meaning r in
+    let kept = watch-keeps (watchIn state) bus time (number name) said in
+    ap (λ (h : watching.WatchAfter). stateBytes (h .watch)) e ∙ ap stateBytes kept ∙ written-back state bytes s
+
+-- so does a check that resets nothing
+pub unreset : (state : List ℕ) → Bytes state → isState state ≡ true → (time : ℕ) (checked : Checked)
+    → checked ≡ watching.checking (watchIn state) time → resets (checked .a) (checked .b) ≡ 0 → stateBytes (checked .watch) ≡ state
+unfolding watches.NoResetKeeps WrittenBack
+unreset state bytes s time checked e z =
+    let none = no-resets (checked .a) (checked .b) z in
+    let a = ap (λ (c : Checked). c .a) (sym e) ∙ none .0 in
+    let b = ap (λ (c : Checked). c .b) (sym e) ∙ none .1 in
+    let kept = no-reset-keeps (watchIn state) time a b in
+    ap (λ (c : Checked). stateBytes (c .watch)) e ∙ ap stateBytes kept ∙ written-back state bytes s
+  where
+    no-resets : (a b : Bool) → resets a b ≡ 0 → (a ≡ false) × (b ≡ false)
+    no-resets false false e = (refl, refl)
+    no-resets true false e = absurd (omega arith)
+    no-resets false true e = absurd (omega arith)
+    no-resets true true e = absurd (omega arith)
+
+-- a call whose refusal leaves the bytes where they are a watch's leaves them everywhere
+keeps : (state : List ℕ) (n : ℕ) (given : WatchBytesAfter) → (isState state ≡ true → given .answer ≡ refused n → given .state ≡ state)
+    → onState state given .answer ≡ refused n → onState state given .state ≡ state
+keeps state n given same = go (isState state) refl
+  where
+    left : Bool → WatchBytesAfter
+    left b = cond b given (notState state)
+
+    go : (b : Bool) → isState state ≡ b → left b .answer ≡ refused n → left b .state ≡ state
+    go true s e = same s e
+    go false s e = refl
 
 pub refused-keeps : RefusedKeeps
-unfolding RefusedKeeps WrittenBack hearing
-refused-keeps state bytes bus time n = go (isState state) refl
-  where
-    given : Bool → Handed
-    given b = cond b (handed (watching.hearing (watchIn state) bus time)) (notState state)
+unfolding RefusedKeeps WrittenBack renew hearing checking watches.RefusedKeeps
+refused-keeps state bytes bus time n = (
+  keeps state n _ (λ s e. let z : _≡_ {A = ℕ} 0 1 = cc in absurd (omega arith)),
+  keeps state n _ (λ s e. ap stateBytes (watch-keeps (watchIn state) bus time n e) ∙ written-back state bytes s),
+  keeps state n _ (λ s e. let z : _≡_ {A = ℕ} 0 1 = cc in absurd (omega arith)),
+)
 
-    go : (b : Bool) → isState state ≡ b → given b .answer ≡ refused n → given b .state ≡ state
-    go true s r = ap stateBytes (hearing-kept (watchIn state) bus time n r) ∙ written-back state bytes s
-    go false s r = refl
+pub examples : Examples
+unfolding isState stateBytes watchIn wordBytes wordOf wordAt renew hearing checking watching.hearing watching.since watching.silent watching.checking guarded
+examples =
+    record {
+      lengths = (refl, refl, refl, refl, refl, refl);
+      times = (refl, refl, refl, refl);
+      checks = (refl, refl, refl, refl);
+    }

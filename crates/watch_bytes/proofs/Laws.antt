@@ -5,9 +5,9 @@ use mathlib.Core.List.{List}
 use Prim.Native.Nat.{ℕ}
 use borrow.Author.Tests.{eq-eqb, ne-eqb}
 use lib.ListN.{length}
-use Rattle.watch_bytes.specs.States.{Handed, isState, notState, onState}
+use Rattle.watch_bytes.specs.States.{WatchBytesAfter, isState, notState, onState}
 
-module _ (state : List ℕ) (given : Handed) where
+module _ (state : List ℕ) (given : WatchBytesAfter) where
   pub no-watch : length state ≢ 8 → notState state ≡ onState state given
   unfolding isState
   no-watch h = rw (ne-eqb (length state) 8 h)

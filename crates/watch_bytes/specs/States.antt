@@ -29,27 +29,27 @@ unfoldable pub isState : List ℕ → Bool
 isState state = eqb (length state) 8
 
 -- the answer, and the lent bytes afterwards
-pub record Handed : Type 0 where
+pub record WatchBytesAfter : Type 0 where
   pub answer : Result ℕ
   pub state : List ℕ
 
 -- what a call on the watch gives, the next watch as bytes
-abbrev pub handed : watching.Handed → Handed
-handed given = record { answer = given .answer; state = stateBytes (given .watch) }
+abbrev pub heardInBytes : watching.WatchAfter → WatchBytesAfter
+heardInBytes given = record { answer = given .answer; state = stateBytes (given .watch) }
 
 -- bytes that are no watch's are refused and stay
-abbrev pub notState : List ℕ → Handed
+abbrev pub notState : List ℕ → WatchBytesAfter
 notState state = record { answer = refused (number State); state = state }
 
-abbrev pub onState : List ℕ → Handed → Handed
+abbrev pub onState : List ℕ → WatchBytesAfter → WatchBytesAfter
 onState state given = cond (isState state) given (notState state)
 
 -- any 8 bytes become a new watch's; the answer is 0
-unfoldable pub renew : List ℕ → (time : ℕ) → Handed
+unfoldable pub renew : List ℕ → (time : ℕ) → WatchBytesAfter
 renew state time = onState state (record { answer = value 0; state = stateBytes (watching.newWatch time) })
 
-unfoldable pub hearing : List ℕ → (bus time : ℕ) → Handed
-hearing state bus time = onState state (handed (watching.hearing (watchIn state) bus time))
+unfoldable pub hearing : List ℕ → (bus time : ℕ) → WatchBytesAfter
+hearing state bus time = onState state (heardInBytes (watching.hearing (watchIn state) bus time))
 
 -- which buses are to be reset: 0 none, 1 A, 2 B, 3 both
 abbrev pub resets : (a b : Bool) → ℕ
@@ -58,12 +58,12 @@ resets true false = 1
 resets false true = 2
 resets true true = 3
 
-abbrev pub checked : Checked → Handed
-checked given = record { answer = value (resets (given .a) (given .b)); state = stateBytes (given .watch) }
+abbrev pub checkedInBytes : Checked → WatchBytesAfter
+checkedInBytes given = record { answer = value (resets (given .a) (given .b)); state = stateBytes (given .watch) }
 
-unfoldable pub checking : List ℕ → (time : ℕ) → Handed
-checking state time = onState state (checked (watching.checking (watchIn state) time))
+unfoldable pub checking : List ℕ → (time : ℕ) → WatchBytesAfter
+checking state time = onState state (checkedInBytes (watching.checking (watchIn state) time))
 
 -- what the code's answer says, and the bytes afterwards
-abbrev pub after : Outcome → List ℕ → Handed
-after r state = record { answer = meaning r; state = state }
+abbrev pub watchBytesAfter : Outcome → List ℕ → WatchBytesAfter
+watchBytesAfter r state = record { answer = meaning r; state = state }

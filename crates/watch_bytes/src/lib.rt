@@ -11,6 +11,7 @@ ghost use Prim.Native.Nat.{_+_, _≤_};
 ghost use lib.ListN.{length};
 ghost use Rattle.words.specs.Words.{wordAt};
 ghost use Rattle.watch_bytes.specs.States as states;
+ghost use Rattle.watch_bytes.specs.Claims as claims;
 
 // The bytes of a state.
 pub struct State;
@@ -49,7 +50,7 @@ fn load(state: &[u8]) -> Watch
 
 // Makes the bytes those of a watch that begins at the time. Answers 0, or refuses: STATE.
 pub fn new(state: &mut [u8], time: u32) -> Outcome
-    ensures { λ r. ⌜ states.after r (now (state .exit)) ≡ states.renew (now (state .entry)) time ⌝ }
+    ensures { λ r. ⌜ states.watchBytesAfter r (now (state .exit)) ≡ states.renew (now (state .entry)) time ⌝ }
 {
     if state.len() != State::SIZE {
         return Outcome::Refused(Refusal::State);
@@ -58,17 +59,21 @@ pub fn new(state: &mut [u8], time: u32) -> Outcome
     Outcome::Value(0)
 }
 
-// A bus is heard at the time: 0 is A, 1 is B. Answers the bus, or refuses: STATE, FIELD.
+// A bus is heard at the time: 0 is A, 1 is B. Answers the bus, or refuses and stores nothing: STATE, FIELD.
 pub fn heard(state: &mut [u8], bus: u8, time: u32) -> Outcome
-    ensures { λ r. ⌜ states.after r (now (state .exit)) ≡ states.hearing (now (state .entry)) bus time ⌝ }
+    ensures { λ r. ⌜ states.watchBytesAfter r (now (state .exit)) ≡ states.hearing (now (state .entry)) bus time ⌝ }
 {
     if state.len() != State::SIZE {
         return Outcome::Refused(Refusal::State);
     }
     let heard = load(state).heard(bus, time);
     let watch = heard.watch;
+    let answer = heard.answer;
+    if let Outcome::Refused(_) = answer {
+        return answer;
+    }
     put(state, watch);
-    heard.answer
+    answer
 }
 
 fn resets(a: bool, b: bool) -> usize
@@ -86,15 +91,29 @@ fn resets(a: bool, b: bool) -> usize
     0
 }
 
-// Which buses are to be reset at the time: 0 none, 1 A, 2 B, 3 both. Refuses: STATE.
+// Which buses are to be reset at the time: 0 none, 1 A, 2 B, 3 both. Refuses: STATE. With none nothing is stored.
 pub fn check(state: &mut [u8], time: u32) -> Outcome
-    ensures { λ r. ⌜ states.after r (now (state .exit)) ≡ states.checking (now (state .entry)) time ⌝ }
+    ensures { λ r. ⌜ states.watchBytesAfter r (now (state .exit)) ≡ states.checking (now (state .entry)) time ⌝ }
 {
     if state.len() != State::SIZE {
         return Outcome::Refused(Refusal::State);
     }
     let checked = load(state).check(time);
     let watch = checked.watch;
-    put(state, watch);
-    Outcome::Value(resets(checked.a, checked.b))
+    let reset = resets(checked.a, checked.b);
+    if reset != 0 {
+        put(state, watch);
+    }
+    Outcome::Value(reset)
 }
+
+// The claims of this crate. It does nothing: its contract ties each claim to its proof.
+pub fn promised()
+    ensures read_back { λ _. ⌜ claims.ReadBack ⌝ }
+    ensures written_is_state { λ _. ⌜ claims.WrittenIsState ⌝ }
+    ensures written_back { λ _. ⌜ claims.WrittenBack ⌝ }
+    ensures refused_keeps { λ _. ⌜ claims.RefusedKeeps ⌝ }
+    ensures as_run { λ _. ⌜ claims.AsRun ⌝ }
+    ensures last_times { λ _. ⌜ claims.LastTimesOnBytes ⌝ }
+    ensures examples { λ _. ⌜ claims.Examples ⌝ }
+{}

@@ -4,14 +4,24 @@ use mathlib.Core.Path.{_≡_, sym, ap, _∙_}
 use mathlib.Core.Bool.{true}
 use borrow.Author.Tests.{not-true, not-false}
 use Rattle.master.specs.Exchanges as exchanges
-use Rattle.master_bytes.specs.States.{isState}
-use Rattle.master_bytes.specs.Calls.{handed, replying}
+use Rattle.master.specs.Runs.{reply}
+use Rattle.master_bytes.specs.States.{masterIn, isState}
+use Rattle.master_bytes.specs.Calls.{movedInBytes, replying}
+use Rattle.master_bytes.proofs.Claims.{there}
 use Rattle.master_bytes.proofs.Laws.{sized, no-master, a-master}
 use Rattle.master_bytes.proofs.reply.Statement.{statement}
 use Rattle.master_bytes.proofs.reply.Tie as tie
 
 is-masters : (c : tie.Else1) → isState (c .before .before .before .before .args .state .now) ≡ true
 is-masters c = sym (c .before .is-state .ensures) ∙ not-false _ (c .if1 .left)
+
+-- what the master's own call gives
+told : (c : tie.After-reply)
+    → let g = c .before .before .before .before .before .before .before .args in
+    exchanges.masterAfter (c .reply .result) ≡ exchanges.replying (masterIn (g .state .now)) (g .bus) (g .node) (g .function)
+told c =
+    let g = c .before .before .before .before .before .before .before .args in
+    c .reply .ensures ∙ ap (λ m. exchanges.replying m (g .bus) (g .node) (g .function)) (c .before .load .ensures)
 
 is-state-requires : tie.Need-is-state-requires
 is-state-requires c κs = search needs
@@ -32,7 +42,9 @@ reply-requires : tie.Need-reply-requires
 reply-requires c κs = search needs
 
 hand-back-requires : tie.Need-hand-back-requires
-hand-back-requires c κs = sized _ (is-masters (c .before .before .before .before))
+hand-back-requires c κs =
+    let i = is-masters (c .before .before .before .before) in
+    (sized _ i, there _ i _ (reply _ _ _) (told (c .before)))
 
 same-length-2 : tie.Need-same-length-2
 same-length-2 c = search needs
@@ -45,8 +57,8 @@ returns-2 c =
     let b = h .before .before .before in
     let g = b .before .before .before .before .args in
     p .hand-back .ensures
-    ∙ ap handed
-    (h .reply .ensures ∙ ap (λ m. exchanges.replying m (g .bus) (g .node) (g .function)) (h .before .load .ensures))
+    ∙ ap movedInBytes
+    (told h)
     ∙ a-master (g .state .now) _ (is-masters b)
 
 pub reply-spec : {M : Type 1} → statement M

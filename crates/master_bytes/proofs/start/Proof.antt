@@ -1,16 +1,28 @@
 -- `master_bytes::start` meets its contract: bytes that are no master's, and those that are.
 use borrow.Author.Needs.{needs}
 use mathlib.Core.Path.{_≡_, sym, ap, _∙_}
-use mathlib.Core.Bool.{true}
+use mathlib.Core.Bool.{true, cond}
 use borrow.Author.Tests.{not-true, not-false}
-use Rattle.master_bytes.specs.States.{masterIn, isState}
-use Rattle.master_bytes.specs.Calls.{handed, starting}
+use Rattle.master.specs.Exchanges as exchanges
+use Rattle.master.specs.Runs.{start}
+use Rattle.master_bytes.specs.States.{kindOf, masterIn, isState}
+use Rattle.master_bytes.specs.Calls.{movedInBytes, isKind, starting}
+use Rattle.master_bytes.proofs.Claims.{there}
 use Rattle.master_bytes.proofs.Laws.{sized, no-master, a-master, asked}
 use Rattle.master_bytes.proofs.start.Statement.{statement}
 use Rattle.master_bytes.proofs.start.Tie as tie
 
 is-masters : (c : tie.Else1) → isState (c .before .before .before .before .args .state .now) ≡ true
 is-masters c = sym (c .before .is-state .ensures) ∙ not-false _ (c .if1 .left)
+
+-- what the master's own call gives
+told : (c : tie.After-start)
+    → let g = c .before .before .before .before .before .before .before .before .before .args in
+    exchanges.masterAfter (c .start .result)
+    ≡ exchanges.starting (masterIn (g .state .now)) (kindOf (g .kind)) (cond (isKind (g .kind)) (g .node) 64)
+told c =
+    let g = c .before .before .before .before .before .before .before .before .before .args in
+    rw (← c .before .node-for .ensures, ← c .before .before .kind-of .ensures, ← c .before .before .before .load .ensures) (c .start .ensures)
 
 is-state-requires : tie.Need-is-state-requires
 is-state-requires c κs = search needs
@@ -37,7 +49,9 @@ start-requires : tie.Need-start-requires
 start-requires c κs = search needs
 
 hand-back-requires : tie.Need-hand-back-requires
-hand-back-requires c κs = sized _ (is-masters (c .before .before .before .before .before .before))
+hand-back-requires c κs =
+    let i = is-masters (c .before .before .before .before .before .before) in
+    (sized _ i, there _ i _ (start _ _) (told (c .before)))
 
 same-length-2 : tie.Need-same-length-2
 same-length-2 c = search needs
@@ -50,9 +64,8 @@ returns-2 c =
     let b = h .before .before .before .before .before in
     let g = b .before .before .before .before .args in
     p .hand-back .ensures
-    ∙ ap handed
-    (h .start .ensures
-    ∙ rw (h .before .node-for .ensures, h .before .before .kind-of .ensures, h .before .before .before .load .ensures) (asked (masterIn (g .state .now)) (g .kind) (g .node)))
+    ∙ ap movedInBytes
+    (told h ∙ asked (masterIn (g .state .now)) (g .kind) (g .node))
     ∙ a-master (g .state .now) _ (is-masters b)
 
 pub start-spec : {M : Type 1} → statement M

@@ -4,14 +4,23 @@ use mathlib.Core.Path.{_≡_, sym, ap, _∙_}
 use mathlib.Core.Bool.{true}
 use borrow.Author.Tests.{not-true, not-false}
 use Rattle.master.specs.Exchanges as exchanges
-use Rattle.master_bytes.specs.States.{isState}
-use Rattle.master_bytes.specs.Calls.{handed, timingOut}
+use Rattle.master.specs.Runs.{timeout}
+use Rattle.master_bytes.specs.States.{masterIn, isState}
+use Rattle.master_bytes.specs.Calls.{movedInBytes, timingOut}
+use Rattle.master_bytes.proofs.Claims.{there}
 use Rattle.master_bytes.proofs.Laws.{sized, no-master, a-master}
 use Rattle.master_bytes.proofs.timeout.Statement.{statement}
 use Rattle.master_bytes.proofs.timeout.Tie as tie
 
 is-masters : (c : tie.Else1) → isState (c .before .before .before .before .args .state .now) ≡ true
 is-masters c = sym (c .before .is-state .ensures) ∙ not-false _ (c .if1 .left)
+
+-- what the master's own call gives
+told : (c : tie.After-timeout)
+    → let g = c .before .before .before .before .before .before .before .args in
+    exchanges.masterAfter (c .timeout .result) ≡ exchanges.timingOut (masterIn (g .state .now))
+told c =
+    c .timeout .ensures ∙ ap exchanges.timingOut (c .before .load .ensures)
 
 is-state-requires : tie.Need-is-state-requires
 is-state-requires c κs = search needs
@@ -32,7 +41,9 @@ timeout-requires : tie.Need-timeout-requires
 timeout-requires c κs = search needs
 
 hand-back-requires : tie.Need-hand-back-requires
-hand-back-requires c κs = sized _ (is-masters (c .before .before .before .before))
+hand-back-requires c κs =
+    let i = is-masters (c .before .before .before .before) in
+    (sized _ i, there _ i _ timeout (told (c .before)))
 
 same-length-2 : tie.Need-same-length-2
 same-length-2 c = search needs
@@ -45,8 +56,8 @@ returns-2 c =
     let b = h .before .before .before in
     let g = b .before .before .before .before .args in
     p .hand-back .ensures
-    ∙ ap handed
-    (h .timeout .ensures ∙ ap exchanges.timingOut (h .before .load .ensures))
+    ∙ ap movedInBytes
+    (told h)
     ∙ a-master (g .state .now) _ (is-masters b)
 
 pub timeout-spec : {M : Type 1} → statement M

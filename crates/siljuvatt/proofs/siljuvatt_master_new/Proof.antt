@@ -1,7 +1,7 @@
 -- `siljuvatt_master_new` meets its contract: that of the call on the bytes, its answer as a number.
 use mathlib.Core.Path.{_∙_, ap}
 use Prim.Native.Nat.{ℕ}
-use Rattle.master_bytes.specs.Calls.{Handed}
+use Rattle.master_bytes.specs.Calls.{MasterBytesAfter}
 use Rattle.siljuvatt.specs.Answers.{outcomeWord}
 use borrow.Author.Needs.{needs}
 use Rattle.siljuvatt.proofs.siljuvatt_master_new.Statement.{statement}
@@ -18,7 +18,7 @@ same-length c = search needs
 
 returns : tie.Need-returns
 returns c = let e = c .before .before .before .new .ensures in
-    (c .outcome-word .ensures ∙ ap (λ (h : Handed ℕ). outcomeWord (h .answer)) e, ap (λ (h : Handed ℕ). h .state) e)
+    (c .outcome-word .ensures ∙ ap (λ (h : MasterBytesAfter ℕ). outcomeWord (h .answer)) e, ap (λ (h : MasterBytesAfter ℕ). h .state) e)
 
 pub siljuvatt-master-new-spec : {M : Type 1} → statement M
 siljuvatt-master-new-spec =

@@ -1,7 +1,7 @@
 -- `siljuvatt_master_reply` meets its contract: that of the call on the bytes, its answer as a number.
 use mathlib.Core.Path.{_∙_, ap}
 use Rattle.master.specs.Exchanges.{Told}
-use Rattle.master_bytes.specs.Calls.{Handed}
+use Rattle.master_bytes.specs.Calls.{MasterBytesAfter}
 use Rattle.siljuvatt.specs.Answers.{toldWord}
 use borrow.Author.Needs.{needs}
 use Rattle.siljuvatt.proofs.siljuvatt_master_reply.Statement.{statement}
@@ -18,7 +18,7 @@ same-length c = search needs
 
 returns : tie.Need-returns
 returns c = let e = c .before .before .before .reply .ensures in
-    (c .told-word .ensures ∙ ap (λ (h : Handed Told). toldWord (h .answer)) e, ap (λ (h : Handed Told). h .state) e)
+    (c .told-word .ensures ∙ ap (λ (h : MasterBytesAfter Told). toldWord (h .answer)) e, ap (λ (h : MasterBytesAfter Told). h .state) e)
 
 pub siljuvatt-master-reply-spec : {M : Type 1} → statement M
 siljuvatt-master-reply-spec =

@@ -1,6 +1,6 @@
 -- `siljuvatt_watch_new` meets its contract: that of the call on the bytes, its answer as a number.
 use mathlib.Core.Path.{_∙_, ap}
-use Rattle.watch_bytes.specs.States.{Handed}
+use Rattle.watch_bytes.specs.States.{WatchBytesAfter}
 use Rattle.siljuvatt.specs.Answers.{outcomeWord}
 use borrow.Author.Needs.{needs}
 use Rattle.siljuvatt.proofs.siljuvatt_watch_new.Statement.{statement}
@@ -17,7 +17,7 @@ same-length c = search needs
 
 returns : tie.Need-returns
 returns c = let e = c .before .before .before .new .ensures in
-    (c .outcome-word .ensures ∙ ap (λ (h : Handed). outcomeWord (h .answer)) e, ap (λ (h : Handed). h .state) e)
+    (c .outcome-word .ensures ∙ ap (λ (h : WatchBytesAfter). outcomeWord (h .answer)) e, ap (λ (h : WatchBytesAfter). h .state) e)
 
 pub siljuvatt-watch-new-spec : {M : Type 1} → statement M
 siljuvatt-watch-new-spec =

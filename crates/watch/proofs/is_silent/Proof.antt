@@ -13,7 +13,7 @@ returns : tie.Need-returns
 unfolding silent
 returns c =
     let a = c .before .args in
-    rw (since-is (a .last) (a .now) (c .wrapping-sub-u32 .result) (omega arith) (omega arith) (omega arith) (omega arith))
+    rw (since-is (a .last) (a .time) (c .wrapping-sub-u32 .result) (omega arith) (omega arith) (omega arith) (omega arith))
 
 pub is-silent-spec : {M : Type 1} → statement M
 is-silent-spec = tie.close (tie.spec wrapping-sub-u32-requires returns)

@@ -1,12 +1,31 @@
--- `watch_bytes::check` meets its contract: bytes of another length, and those of a watch.
+-- `watch_bytes::check` meets its contract: bytes of another length, buses to be reset, and none, where the watch is in the bytes already.
 use borrow.Author.Needs.{needs}
-use mathlib.Core.Path.{ap, _∙_}
+use mathlib.Core.Path.{_≡_, sym, ap, _∙_}
+use mathlib.Core.Bool.{true}
 use native.Mathlib.Omega.{arith}
+use borrow.Author.Tests.{eq-eqb}
+use Rattle.format.specs.declared.Outcome.the-variants.{Value}
+use Rattle.frame.specs.Claims.{Bytes}
 use Rattle.watch.specs.Watching as watching
-use Rattle.watch_bytes.specs.States.{checked, checking}
+use Rattle.watch_bytes.specs.States.{watchBytesAfter, watchIn, isState, resets, checkedInBytes, checking}
+use Rattle.watch_bytes.proofs.Claims.{unreset}
 use Rattle.watch_bytes.proofs.Laws.{no-watch, a-watch}
 use Rattle.watch_bytes.proofs.check.Statement.{statement}
 use Rattle.watch_bytes.proofs.check.Tie as tie
+
+is-watch : (c : tie.Else1) → isState (c .before .before .args .state .now) ≡ true
+unfolding isState
+is-watch c = eq-eqb _ _ (c .if1 .left)
+
+bytes : (c : tie.After-slice-known) → Bytes (c .before .args .state .now)
+bytes c i = omega (arith, c .slice-known .given i)
+
+-- what the watch's own call gives
+told : (c : tie.After-check)
+    → let g = c .before .before .before .before .before .args in c .check .result ≡ watching.checking (watchIn (g .state .now)) (g .time)
+told c =
+    let g = c .before .before .before .before .before .args in
+    c .check .ensures ∙ ap (λ w. watching.checking w (g .time)) (c .before .load .ensures)
 
 returns : tie.Need-returns
 unfolding checking
@@ -18,11 +37,11 @@ load-requires c κs = search needs
 check-requires : tie.Need-check-requires
 check-requires c κs = search needs
 
-put-requires : tie.Need-put-requires
-put-requires c κs = search needs
-
 resets-requires : tie.Need-resets-requires
 resets-requires c κs = search needs
+
+put-requires : tie.Need-put-requires
+put-requires c κs = search needs
 
 same-length : tie.Need-same-length
 same-length c = search needs
@@ -30,12 +49,26 @@ same-length c = search needs
 returns-2 : tie.Need-returns-2
 unfolding checking
 returns-2 c =
-    let p = c .before .before .before in
-    let h = p .before .before .before in
+    let p = c .before .before in
+    let r = p .before .before .before in
+    let h = r .before .before in
     let g = h .before .before .before .before .before .args in
-    rw (p .put .ensures, c .resets .ensures)
-    (ap checked (h .check .ensures ∙ ap (λ w. watching.checking w (g .time)) (h .before .load .ensures))
-    ∙ a-watch (g .state .now) _ (omega arith))
+    rw (p .put .ensures, r .resets .ensures) (ap checkedInBytes (told h) ∙ a-watch (g .state .now) _ (omega arith))
+
+same-length-2 : tie.Need-same-length-2
+same-length-2 c = search needs
+
+returns-3 : tie.Need-returns-3
+unfolding checking
+returns-3 c =
+    let r = c .before in
+    let h = r .before .before in
+    let b = h .before .before .before in
+    let g = b .before .before .args in
+    let none : resets (h .check .result .a) (h .check .result .b) ≡ 0 = omega (arith, r .resets .ensures) in
+    let same = unreset (g .state .now) (bytes (b .before)) (is-watch b) (g .time) (h .check .result) (told h) none in
+    ap (watchBytesAfter (Value (r .resets .result))) (sym same)
+    ∙ rw (r .resets .ensures) (ap checkedInBytes (told h) ∙ a-watch (g .state .now) _ (omega arith))
 
 pub check-spec : {M : Type 1} → statement M
 check-spec =
@@ -44,7 +77,9 @@ check-spec =
     returns
     load-requires
     check-requires
-    put-requires
     resets-requires
+    put-requires
     same-length
-    returns-2)
+    returns-2
+    same-length-2
+    returns-3)

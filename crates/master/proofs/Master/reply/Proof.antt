@@ -6,7 +6,7 @@ use borrow.Author.Tests.{not-true, not-false}
 use lib.Dec.{leb}
 use Rattle.format.specs.Tests.{allTrue}
 use Rattle.master.specs.Masters.{sound}
-use Rattle.master.specs.Exchanges.{underWay, counts, after}
+use Rattle.master.specs.Exchanges.{underWay, counts, masterAfter}
 use Rattle.master.proofs.Moves.{node-in-range, reply-state, reply-field, reply-idle, reply-other, reply-done}
 use borrow.Author.Needs.{needs}
 use Rattle.master.proofs.Master.reply.Statement.{statement}
@@ -36,7 +36,7 @@ refuse-requires c κs = search needs
 returns : tie.Need-returns
 returns c =
     let g = c .before .before .before .before .args in
-    ap after (c .refuse .ensures) ∙ reply-state (g .self) (g .bus) (g .node) (g .function) (sym (c .before .before .is-sound .ensures) ∙ not-true _ (c .before .if1 .taken))
+    ap masterAfter (c .refuse .ensures) ∙ reply-state (g .self) (g .bus) (g .node) (g .function) (sym (c .before .before .is-sound .ensures) ∙ not-true _ (c .before .if1 .taken))
 
 refuse-requires-2 : tie.Need-refuse-requires-2
 refuse-requires-2 c κs = search needs
@@ -45,7 +45,7 @@ returns-2 : tie.Need-returns-2
 unfolding allTrue
 returns-2 c =
     let g = c .before .before .before .before .before .args in
-    ap after (c .refuse2 .ensures) ∙ reply-field (g .self) (g .bus) (g .node) (g .function) (sound-there (c .before .before)) (not-true _ (c .before .if2 .taken))
+    ap masterAfter (c .refuse2 .ensures) ∙ reply-field (g .self) (g .bus) (g .node) (g .function) (sound-there (c .before .before)) (not-true _ (c .before .if2 .taken))
 
 enum-told : tie.Need-enum-told
 enum-told c = search needs
@@ -67,7 +67,7 @@ returns-3 : tie.Need-returns-3
 returns-3 c =
     let g = c .before .before .before .before .before .before .before .before .before .before .args in
     let e = c .before .before .before .before .activity .given .1 in
-    ap after (c .refuse4 .ensures)
+    ap masterAfter (c .refuse4 .ensures)
     ∙ reply-other (g .self) (g .bus) (g .node) (g .function) (sound-there (c .before .before .before .before .before .before .before)) (in-range (c .before .before .before .before .before .before)) (ap underWay e)
     (told (c .before .before) ∙ not-true _ (c .before .if3 .taken))
 
@@ -77,14 +77,14 @@ end-requires c κs = search needs
 returns-4 : tie.Need-returns-4
 returns-4 c =
     let g = c .before .before .before .before .before .before .before .args in
-    ap after (c .refuse3 .ensures)
+    ap masterAfter (c .refuse3 .ensures)
     ∙ reply-idle (g .self) (g .bus) (g .node) (g .function) (sound-there (c .before .before .before .before)) (in-range (c .before .before .before)) (ap underWay (c .before .enum-told .given .1))
 
 returns-5 : tie.Need-returns-5
 returns-5 c =
     let g = c .before .before .before .before .before .before .before .before .before .before .args in
     let e = c .before .before .before .before .activity .given .1 in
-    ap after (c .end .ensures)
+    ap masterAfter (c .end .ensures)
     ∙ reply-done (g .self) (g .bus) (g .node) (g .function) (sound-there (c .before .before .before .before .before .before .before)) (in-range (c .before .before .before .before .before .before)) (ap underWay e)
     (told (c .before .before) ∙ not-false _ (c .before .if3 .left))
 

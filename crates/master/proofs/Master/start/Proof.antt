@@ -4,7 +4,7 @@ use mathlib.Core.Bool.{true}
 use native.Mathlib.Omega.{arith}
 use borrow.Author.Tests.{not-true, not-false}
 use Rattle.master.specs.Masters.{sound}
-use Rattle.master.specs.Exchanges.{after}
+use Rattle.master.specs.Exchanges.{masterAfter}
 use Rattle.master.proofs.Moves.{start-state, start-field, start-busy, start-sends}
 use borrow.Author.Needs.{needs}
 use Rattle.master.proofs.Master.start.Statement.{statement}
@@ -25,7 +25,7 @@ refuse-requires c κs = search needs
 returns : tie.Need-returns
 returns c =
     let g = c .before .before .before .before .before .args in
-    ap after (c .refuse .ensures) ∙ start-state (g .self) (g .kind) (g .node) (sym (c .before .before .is-sound .ensures) ∙ not-true _ (c .before .if1 .taken))
+    ap masterAfter (c .refuse .ensures) ∙ start-state (g .self) (g .kind) (g .node) (sym (c .before .before .is-sound .ensures) ∙ not-true _ (c .before .if1 .taken))
 
 refuse-requires-2 : tie.Need-refuse-requires-2
 refuse-requires-2 c κs = search needs
@@ -33,7 +33,7 @@ refuse-requires-2 c κs = search needs
 returns-2 : tie.Need-returns-2
 returns-2 c =
     let g = c .before .before .before .before .before .before .args in
-    ap after (c .refuse2 .ensures) ∙ start-field (g .self) (g .kind) (g .node) (sound-there (c .before .before)) (omega arith)
+    ap masterAfter (c .refuse2 .ensures) ∙ start-field (g .self) (g .kind) (g .node) (sound-there (c .before .before)) (omega arith)
 
 refuse-requires-3 : tie.Need-refuse-requires-3
 refuse-requires-3 c κs = search needs
@@ -41,7 +41,7 @@ refuse-requires-3 c κs = search needs
 returns-3 : tie.Need-returns-3
 returns-3 c =
     let g = c .before .before .before .before .before .before .before .args in
-    ap after (c .refuse3 .ensures)
+    ap masterAfter (c .refuse3 .ensures)
     ∙ start-busy (g .self) (g .kind) (g .node) (sound-there (c .before .before .before)) (omega arith) (sym (c .before .before .before .before .before .is-under-way .ensures) ∙ c .before .if3 .taken)
 
 send-requires : tie.Need-send-requires

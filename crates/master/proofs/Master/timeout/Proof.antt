@@ -3,7 +3,7 @@ use mathlib.Core.Path.{_≡_, sym, ap, _∙_}
 use mathlib.Core.Bool.{true}
 use borrow.Author.Tests.{not-true, not-false}
 use Rattle.master.specs.Masters.{sound}
-use Rattle.master.specs.Exchanges.{underWay, expired, given, after}
+use Rattle.master.specs.Exchanges.{underWay, expired, given, masterAfter}
 use Rattle.master.proofs.Moves.{node-in-range, timeout-state, timeout-idle, timeout-expires}
 use borrow.Author.Needs.{needs}
 use Rattle.master.proofs.Master.timeout.Statement.{statement}
@@ -20,7 +20,7 @@ refuse-requires c κs = search needs
 
 returns : tie.Need-returns
 returns c =
-    ap after (c .refuse .ensures) ∙ timeout-state (c .before .before .before .before .args .self) (sym (c .before .before .is-sound .ensures) ∙ not-true _ (c .before .if1 .taken))
+    ap masterAfter (c .refuse .ensures) ∙ timeout-state (c .before .before .before .before .args .self) (sym (c .before .before .is-sound .ensures) ∙ not-true _ (c .before .if1 .taken))
 
 enum-told : tie.Need-enum-told
 enum-told c = search needs
@@ -37,7 +37,7 @@ expire-requires c κs =
 
 returns-2 : tie.Need-returns-2
 returns-2 c =
-    ap after (c .refuse2 .ensures) ∙ timeout-idle (c .before .before .before .before .before .before .args .self) (sound-there (c .before .before .before)) (ap underWay (c .before .enum-told .given .1))
+    ap masterAfter (c .refuse2 .ensures) ∙ timeout-idle (c .before .before .before .before .before .before .args .self) (sound-there (c .before .before .before)) (ap underWay (c .before .enum-told .given .1))
 
 returns-3 : tie.Need-returns-3
 returns-3 c =
