@@ -39,7 +39,8 @@ abbrev pub EachNumber : (ℕ → Type 0) → List Check → Type 0
 EachNumber P [] = Unit {0}
 EachNumber P (check name ok ∷ rest) = P (number name) × EachNumber P rest
 
-pub refused-by : {A : Type 0} (P : ℕ → Type 0) (checks : List Check) → EachNumber P checks → (x : A) (n : ℕ) → guarded checks x ≡ refused n → P n
+pub refused-by : {A : Type 0} (P : ℕ → Type 0) (checks : List Check) → EachNumber P checks → (x : A) (n : ℕ)
+    → guarded checks x ≡ refused n → P n
 unfolding guarded
 refused-by P [] h x n e = let z : _≡_ {A = ℕ} 0 1 = cc in absurd (omega arith)
 refused-by P (check name true ∷ rest) h x n e = refused-by P rest (h .1) x n e

@@ -1,6 +1,6 @@
 -- A test that two frames that were judged are the same: by numbers that say all of each.
 use Prim.Native.Nat.{ℕ}
-use mathlib.Core.Path.{_≡_, refl, sym, ap, _∙_}
+use mathlib.Core.Path.{_≡_, sym, ap, _∙_}
 use mathlib.Core.Bool.{Bool, true, cond}
 use mathlib.Core.List.{List, _∷_}
 use lib.Dec.{eqb}
@@ -10,7 +10,7 @@ use Rattle.format.specs.declared.Fields.the-variants.{Extended, Standard}
 use Rattle.format.specs.Formats.{flagBits}
 use Rattle.format.proofs.Tables.{sameNumbers, same-numbers}
 use Rattle.frame.specs.Layout.{flagOf}
-use Rattle.frame.specs.Judge.{Judged, readAs}
+use Rattle.frame.specs.Judge.{Judged}
 use Rattle.frame.proofs.Flags.{flag-of-bits}
 
 -- the fields, with 0 for those that the standard format has not, before what follows
@@ -25,7 +25,9 @@ codes judged =
 
 fieldsOf : List ℕ → Fields
 fieldsOf l =
-    cond (eqb (getD l 0 0) 0) (Extended (getD l 1 0) (getD l 2 0) (getD l 3 0) (getD l 4 0) (getD l 5 0)) (Standard (getD l 1 0) (getD l 2 0) (getD l 3 0))
+    cond (eqb (getD l 0 0) 0)
+    (Extended (getD l 1 0) (getD l 2 0) (getD l 3 0) (getD l 4 0) (getD l 5 0))
+    (Standard (getD l 1 0) (getD l 2 0) (getD l 3 0))
 
 decoded : List ℕ → Judged
 decoded l =

@@ -1,6 +1,6 @@
 -- What an image has that is judged sound, and which refusals judging gives: by name, for proofs of other crates.
 use Prim.Native.Nat.{ℕ, _+_, _-_, _≤_, _<_}
-use mathlib.Core.Path.{_≡_, refl, sym, ap, _∙_}
+use mathlib.Core.Path.{_≡_, refl}
 use mathlib.Core.Bool.{true}
 use mathlib.Core.List.{List}
 use native.Mathlib.Omega.{arith}
@@ -97,7 +97,8 @@ pub record FrameInRange (format : Format) (judged : Judged) : Type 0 where
   pub fields : inRange (judged .frame .fields) ≡ true
   pub number : judged .frame .number < numberRange format
 
-pub frame-in-range : (format : Format) (image : List ℕ) → Bytes image → (judged : Judged) → judge format image ≡ value judged → FrameInRange format judged
+pub frame-in-range : (format : Format) (image : List ℕ) → Bytes image → (judged : Judged)
+    → judge format image ≡ value judged → FrameInRange format judged
 unfolding JudgedIsImage soundFrame
 frame-in-range format image bytes judged e =
     let i = judged-is-image format image bytes judged e in
@@ -114,18 +115,15 @@ pub record JudgingRefusal (n : ℕ) : Type 0 where
   pub last : n ≤ 5
 
 -- one of the names, by its number
-named : (name : Refusal) → 1 ≤ number name → number name ≤ 5 → JudgingRefusal (number name)
-named name a b = record { name = name; is = refl; least = a; last = b }
+named : (name : Refusal) → (1 ≤ number name) × (number name ≤ 5) → JudgingRefusal (number name)
+named name h = record { name = name; is = refl; least = h .0; last = h .1 }
 
 pub judging-refusal : (format : Format) (image : List ℕ) (n : ℕ) → judge format image ≡ refused n → JudgingRefusal n
 unfolding judge checks
 judging-refusal format image n e =
     refused-by JudgingRefusal (checks format (length image) (layout format image)) (
-      named Length (omega arith) (omega arith),
-      (
-        named Form (omega arith) (omega arith),
-        (named Remote (omega arith) (omega arith), (named Count (omega arith) (omega arith), (named Piece (omega arith) (omega arith), tt))),
-      ),
+      named Length (omega arith),
+      (named Form (omega arith), (named Remote (omega arith), (named Count (omega arith), (named Piece (omega arith), tt)))),
     )
     _ n e
 

@@ -3,5 +3,5 @@ mod JudgeLaws
 pub mod Images
 pub mod Judged
 mod Verdicts
-mod Bounds
 pub mod Codes
+mod Bounds

@@ -1,5 +1,6 @@
--- Document 01, "Frame images" and the piece rules: every end of every range, from both sides, and the order of refusals 1 to 5. The
--- figures are literals, so that a bound changed alike in a definition and in the code breaks the claim. proofs/Bounds.antt proves it.
+-- Document 01, "Frame images" and the piece rules: every end of every range, from both sides, the order of refusals 1 to 5, and what
+-- stands where. The figures are literals, so that one changed alike in a definition and in the code breaks the claim.
+-- proofs/Bounds.antt proves it.
 use Prim.Native.Nat.{ℕ}
 use mathlib.Core.Path.{_≡_}
 use mathlib.Core.Bool.{Bool, true, false}
@@ -7,6 +8,8 @@ use mathlib.Core.List.{List, [], _∷_, _++_}
 use lib.ListN.{replicate}
 use Rattle.format.specs.declared.Format.{Format}
 use Rattle.format.specs.declared.Format.the-variants.{Extended, Standard}
+use Rattle.format.specs.declared.Fields.{Fields}
+use Rattle.format.specs.declared.Fields.the-variants as fields
 use Rattle.format.specs.declared.Flag.{Flag}
 use Rattle.format.specs.declared.Flag.the-variants.{Middle, Start, End, Single}
 use Rattle.format.specs.Refusals.{Result, value, refused}
@@ -18,10 +21,12 @@ pub data Bound : Type 0 where
   rules : Format → Flag → (count number : ℕ) → Bool → Bound
   -- an image, and the number it is refused with: 0 if it is sound
   judges : Format → List ℕ → ℕ → Bound
+  -- a sound image, and all that is read from it
+  reads : Format → List ℕ → Judged → Bound
 
 -- an extended image by its bytes 0, 3 and 4 and the number of its data bytes
 abbrev pub extended : (byte0 byte3 byte4 size : ℕ) → List ℕ
-extended byte0 byte3 byte4 size = byte0 ∷ 0x45 ∷ 0x00 ∷ byte3 ∷ byte4 ∷ replicate size 7
+extended byte0 byte3 byte4 size = byte0 ∷ 0x45 ∷ 0x86 ∷ byte3 ∷ byte4 ∷ replicate size 7
 
 -- a standard image by its byte 1 and its data bytes: the first, which is the number but for a single, and how many follow
 abbrev pub standard : (byte1 first more : ℕ) → List ℕ
@@ -132,6 +137,24 @@ imageTable =
     ∷ judges Standard (standard 0xC2 1 0) 4
     ∷ []
 
+abbrev judgedFrame : Fields → Flag → (number : ℕ) → (bytes : List ℕ) → (start : ℕ) → Judged
+judgedFrame said flag n bytes start =
+    record { frame = record { fields = said; flag = flag; number = n; bytes = bytes }; start = start }
+
+-- what stands where: an image of each flag
+abbrev pub layoutTable : List Bound
+layoutTable =
+    reads Extended (0x80 ∷ 0x00 ∷ 0x00 ∷ 0xC0 ∷ 0x00 ∷ []) (judgedFrame (fields.Extended 0 0 0 0 0) Single 0 [] 5)
+    ∷ reads Extended (extended 0x88 0x40 0x10 8) (judgedFrame (fields.Extended 1 5 2 6 2) Start 0 (replicate 8 7) 5)
+    ∷ reads Extended (0x88 ∷ 0xFF ∷ 0xFF ∷ 0x3F ∷ 0xF8 ∷ replicate 8 7)
+    (judgedFrame (fields.Extended 3 63 3 63 31) Middle 63 (replicate 8 7) 5)
+    ∷ reads Extended (0x82 ∷ 0x45 ∷ 0x86 ∷ 0x81 ∷ 0x10 ∷ 8 ∷ 9 ∷ []) (judgedFrame (fields.Extended 1 5 2 6 2) End 1 (8 ∷ 9 ∷ []) 5)
+    ∷ reads Standard (0xFF ∷ 0x62 ∷ 8 ∷ 9 ∷ []) (judgedFrame (fields.Standard 3 63 0) Single 0 (8 ∷ 9 ∷ []) 2)
+    ∷ reads Standard (standard 0xA8 0 7) (judgedFrame (fields.Standard 2 22 1) Start 0 (replicate 7 7) 3)
+    ∷ reads Standard (0x05 ∷ 0x08 ∷ 254 ∷ replicate 7 7) (judgedFrame (fields.Standard 0 5 0) Middle 254 (replicate 7 7) 3)
+    ∷ reads Standard (0x96 ∷ 0xC3 ∷ 1 ∷ 8 ∷ 9 ∷ []) (judgedFrame (fields.Standard 2 22 1) End 1 (8 ∷ 9 ∷ []) 3)
+    ∷ []
+
 -- the number that a result is refused with, 0 if it is not
 abbrev pub refusalOf : Result Judged → ℕ
 refusalOf (value judged) = 0
@@ -140,6 +163,7 @@ refusalOf (refused n) = n
 abbrev pub Holds : Bound → Type 0
 Holds (rules format flag count number ok) = pieceRule format flag count number ≡ ok
 Holds (judges format image n) = refusalOf (judge format image) ≡ n
+Holds (reads format image judged) = judge format image ≡ value judged
 
 unfoldable pub JudgingBounds : Type 0
-JudgingBounds = AllHold Holds (pieceTable ++ imageTable)
+JudgingBounds = AllHold Holds (pieceTable ++ (imageTable ++ layoutTable))

@@ -37,7 +37,8 @@ says : (example : Example) → test example ≡ true → Holds example
 says (judges format image said) e = same-result sameJudged same-judged _ _ e
 says (counts format size said) e = same-result eqb eqb-true _ _ e
 says (numbers size k said) e =
-    λ priority source group destination function packet l. byte-three size k priority source group destination function packet l ∙ eqb-true _ _ e
+    λ priority source group destination function packet l.
+    byte-three size k priority source group destination function packet l ∙ eqb-true _ _ e
 
 pub examples : ExamplesHold
 unfolding ExamplesHold allAfter allTrue guarded flagOf layout pieceRule checks judge countOf pieceFlag pieceCount

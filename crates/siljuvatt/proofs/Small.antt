@@ -241,7 +241,9 @@ judged-small station store bus (value judged) c = deliver-small station store _ 
 
 judge-within : (format : Format) (image : List ℕ) → Within (λ j. Carrying format (j .frame)) (judge format image)
 judge-within format image =
-    by-judging (Within (λ (j : Judged). Carrying format (j .frame))) format image (judged-carries format image) (λ n r. omega (arith, r .least, r .last))
+    by-judging (Within (λ (j : Judged). Carrying format (j .frame))) format image
+    (judged-carries format image)
+    (λ n r. omega (arith, r .least, r .last))
 
 receive-small : (station : Station) (store : List ℕ) (bus : ℕ) (image : List ℕ) → Receives (receive station store bus image)
 unfolding receive
