@@ -3,7 +3,6 @@ use crate::operations::END;
 use crate::operations::LIST;
 use crate::operations::LISTED;
 use crate::operations::LISTING;
-use crate::request::byte;
 use crate::request::long;
 use crate::request::number;
 use crate::request::rest;
@@ -106,13 +105,13 @@ fn list(desk: Desk, bytes: &mut [u8], args: &[u8], out: &mut [u8]) -> Done {
 }
 
 fn end(desk: Desk, args: &[u8], out: &mut [u8]) -> usize {
-    let size = WITH_COUNT + number(args, 1);
+    let size = WITH_COUNT + number(args, 0);
     if size > out.len() {
         return 0;
     }
     fill(&mut out[WITH_COUNT..size], b'-', 0);
     let listing = listing_of(desk);
-    let answer = listing.end(byte(args, 0) == 1, &mut out[WITH_COUNT..size]);
+    let answer = listing.end(rest(args, 2), &mut out[WITH_COUNT..size]);
     put_outcome(out, answer);
     put_long(out, 4, desk.count);
     size

@@ -6,22 +6,26 @@ use mathlib.Core.Bool.{Bool, true, false, cond}
 use mathlib.Core.List.{List, [], _∷_, _++_, append-assoc, append-nil}
 use native.Mathlib.Omega.{arith}
 use lib.ListN.{length, take, drop, length-append, length-drop}
-use lib.Seq.{drop-append-le}
+use lib.Dec.{leb}
+use lib.Seq.{drop-append-le, take-at}
 use borrow.Author.Tests.{eq-eqb, eqb-true}
 use Rattle.format.specs.declared.Format.the-variants.{Extended}
 use Rattle.format.specs.declared.Refusal.{Refusal}
 use Rattle.format.specs.Claims.{OneNumber}
-use Rattle.format.specs.Refusals.{number}
+use Rattle.format.specs.Refusals.{value, refused, guarded, number}
 use Rattle.format.proofs.Numbers.{one-number}
 use Rattle.frame.specs.Judge.{judge}
+use Rattle.packet.specs.Send.{answer, outputAfter}
 use Rattle.station.specs.Stations.{fullSize}
 use Rattle.station.proofs.Soundness.{met}
 use Rattle.trace.specs.Records.{Found, whole, damaged, cut, none, recordAt}
 use Rattle.trace.specs.Claims.{Sized, Arriving}
 use Rattle.trace.proofs.Arriving.{sized, arriving}
+use Rattle.trace.specs.Lines.{headerLine}
+use Rattle.lister.specs.declared.Listing.{Listing}
 use Rattle.lister.specs.declared.Why.{Why}
 use Rattle.lister.specs.declared.Why.the-variants as why
-use Rattle.lister.specs.Listing.{newListing, extendedStation, heard, lineFor, next, Stand, listedOne, room, Stopped, stopped, listedBy, listed, hasRoom, begun, meaning}
+use Rattle.lister.specs.Listing.{newListing, extendedStation, heard, lineFor, next, Stand, listedOne, room, Stopped, stopped, listedBy, listed, hasRoom, begun, lastLines, ending, meaning}
 use Rattle.lister.specs.Claims.{soundListing, listingAt, everything, program, printed, Part, arrived, called, inParts, InParts, Printed, OneWhy}
 use Rattle.lister.proofs.Rounds.{enough, unrolled}
 use Rattle.lister.proofs.Soundness.{listed-good, is-listed, rest-is, text-is}
@@ -164,11 +168,26 @@ at-end s h = ap (λ (x : Stopped). x .stand) (unrolled (length (s .rest)) always
     go damaged e = refl
     go (whole bus image size) e = absurd (h bus image size e)
 
+-- the call that ends the listing writes the last lines, where it has room
+at-last : (l : Listing) (rest output : List ℕ) (n : ℕ) → answer (ending l rest (length output)) ≡ value n
+    → take n (outputAfter (ending l rest (length output)) output) ≡ lastLines l rest
+unfolding ending guarded
+at-last l rest output n = go (leb (length (lastLines l rest)) (length output))
+  where
+    go : (b : Bool) → answer (cond b (value (lastLines l rest)) (refused 12)) ≡ value n
+        → take n (outputAfter (cond b (value (lastLines l rest)) (refused 12)) output) ≡ lastLines l rest
+    go true e =
+        let q : length (lastLines l rest) ≡ n = cc in
+        take-at (lastLines l rest) (drop (length (lastLines l rest)) output) n q
+    go false e = let y : _≡_ {A = ℕ} 0 1 = cc in absurd (omega arith)
+
 pub printed-so : Printed
 unfolding Printed InParts program
-printed-so store parts full h =
+printed-so store parts output n full h e =
     let s = inParts (begun newListing store []) parts in
-    ap (λ (x : Stopped). printed (x .stand)) (in-parts (begun newListing store []) parts (met .new Extended) full) ∙ ap printed (at-end s h)
+    ap (λ (x : Stopped). printed (x .stand)) (in-parts (begun newListing store []) parts (met .new Extended) full)
+    ∙ ap printed (at-end s h)
+    ∙ ap (λ (x : List ℕ). headerLine ++ (s .text ++ x)) (sym (at-last (listingAt s) (s .rest) output n e))
 
 -- ---- the answer
 

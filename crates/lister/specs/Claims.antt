@@ -6,13 +6,14 @@ use mathlib.Core.Logic.{_≢_}
 use mathlib.Core.Bool.{Bool, true, false}
 use mathlib.Core.List.{List, [], _∷_, _++_}
 use lib.ListN.{length, take, drop}
-use Rattle.format.specs.Refusals.{refused}
+use Rattle.format.specs.Refusals.{value, refused}
+use Rattle.packet.specs.Send.{answer, outputAfter}
 use Rattle.station.specs.Stations.{soundStation, fullSize}
-use Rattle.trace.specs.Records.{Found, whole, damaged, cut, none, recordAt}
+use Rattle.trace.specs.Records.{whole, recordAt}
 use Rattle.trace.specs.Lines.{headerLine}
 use Rattle.lister.specs.declared.Listing.{Listing}
 use Rattle.lister.specs.declared.Why.{Why}
-use Rattle.lister.specs.Listing.{newListing, extendedStation, Stand, Stopped, listed, begun, Ended, listing, endText, meaning}
+use Rattle.lister.specs.Listing.{newListing, extendedStation, Stand, Stopped, listed, begun, Ended, listing, lastLines, ending, meaning}
 
 -- ---- the program
 
@@ -26,17 +27,9 @@ listingAt s = record { slots = s .slots; count = s .count }
 abbrev pub everything : Stand → Stopped
 everything s = listed (length (s .rest)) (λ n. true) s
 
--- whether the listing stops at what is left when no more comes: "A record is damaged when its length, version or bus is none of these
--- or the input ends inside it."
-abbrev pub stopsAt : Found → Bool
-stopsAt none = false
-stopsAt cut = true
-stopsAt damaged = true
-stopsAt (whole bus image size) = false
-
 -- "It prints the header, one line a record, and the count", and of a damaged record "its number and "stopped""
 abbrev pub printed : Stand → List ℕ
-printed s = headerLine ++ (s .text ++ endText (stopsAt (recordAt (s .rest))) (s .count))
+printed s = headerLine ++ (s .text ++ lastLines (listingAt s) (s .rest))
 
 -- the whole output for a whole input; the store is a full-size one, whose bytes no line shows
 unfoldable pub program : (store taken : List ℕ) → List ℕ
@@ -88,13 +81,16 @@ InParts =
     (s : Stand) (parts : List Part) → soundListing (listingAt s) ≡ true → fullSize (s .store) ≡ true
     → everything (record { slots = s .slots; store = s .store; count = s .count; rest = s .rest ++ arrived parts; text = s .text }) ≡ everything (inParts s parts)
 
--- so when no whole record is left, the program's output is what was written, between the header and the last lines
+-- so when no whole record is left, the program's output is the header, what the calls wrote, and what the call that ends the listing on
+-- what is left writes to an output that has room for it
 unfoldable pub Printed : Type 0
 Printed =
-    (store : List ℕ) (parts : List Part) → fullSize store ≡ true
+    (store : List ℕ) (parts : List Part) (output : List ℕ) (n : ℕ) → fullSize store ≡ true
     → let s = inParts (begun newListing store []) parts in
+    let r = ending (listingAt s) (s .rest) (length output) in
     ((bus : ℕ) (image : List ℕ) (size : ℕ) → recordAt (s .rest) ≢ whole bus image size)
-    → program store (arrived parts) ≡ printed s
+    → answer r ≡ value n
+    → program store (arrived parts) ≡ headerLine ++ (s .text ++ take n (outputAfter r output))
 
 -- ---- the answer
 

@@ -162,12 +162,23 @@ listingAfter r store output =
 
 -- ---- the end
 
+-- whether the listing stops at what is left of the input when no more comes: "A record is damaged when its length, version or bus is none
+-- of these or the input ends inside it." A whole record that is left is no damaged one
+abbrev pub stopsAt : Found → Bool
+stopsAt none = false
+stopsAt cut = true
+stopsAt damaged = true
+stopsAt (whole bus image size) = false
+
 -- what follows the lines of the records: of a damaged record "its number and "stopped"", which "isn't counted"; and the count
 abbrev pub endText : (stops : Bool) (count : ℕ) → List ℕ
 endText true count = stoppedLine (next count) ++ countLine count
 endText false count = countLine count
 
+-- the text at the end, with what is left of the input
+abbrev pub lastLines : Listing → (rest : List ℕ) → List ℕ
+lastLines l rest = endText (stopsAt (recordAt rest)) (l .count)
+
 -- for an output of `space` bytes. ROOM: output shorter than that
-unfoldable pub ending : Listing → (stops : Bool) (space : ℕ) → Result (List ℕ)
-ending l stops space =
-    guarded (check Room (leb (length (endText stops (l .count))) space) ∷ []) (endText stops (l .count))
+unfoldable pub ending : Listing → (rest : List ℕ) (space : ℕ) → Result (List ℕ)
+ending l rest space = guarded (check Room (leb (length (lastLines l rest)) space) ∷ []) (lastLines l rest)

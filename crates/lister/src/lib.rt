@@ -34,7 +34,8 @@ ghost use Rattle.slot.specs.Slots.{openSlot};
 ghost use Rattle.slot.specs.Sound.{sound};
 ghost use Rattle.station.specs.Receive.{keyOf, afterTurn};
 ghost use Rattle.station.specs.Parts.{frameOf, Steps};
-ghost use Rattle.lister.specs.Listing.{newListing, extendedStation, heard, listed, hasRoom, begun, endedAs, listing, listingAfter, endText, ending};
+ghost use Rattle.lister.specs.Listing.{newListing, extendedStation, heard, listed, hasRoom, begun, endedAs, listing, listingAfter, stopsAt, endText, ending};
+ghost use Rattle.trace.specs.Records.{recordAt};
 ghost use Rattle.trace.specs.Lines.{lineText, lineInRange};
 ghost use Rattle.lister.specs.Parts.{Heads, Tells, Adds};
 
@@ -194,6 +195,19 @@ fn put_line(line: Line, output: &mut [u8], at: usize) -> usize
     }
 }
 
+// Whether the listing stops at what is left of the input: a damaged record, or one that the input
+// ends inside.
+fn stops_at(rest: &[u8]) -> bool
+    ensures { λ r. ⌜ r ≡ stopsAt (recordAt (now (rest .entry))) ⌝ }
+{
+    match trace::read_record(rest) {
+        Entry::Record { bus: _, size: _ } => false,
+        Entry::Damaged => true,
+        Entry::Cut => true,
+        Entry::End => false,
+    }
+}
+
 // Puts what follows the lines of the records at the text's beginning, and answers where it ends.
 fn put_end(stops: bool, count: u64, text: &mut [u8; 192]) -> usize
     requires { ⌜ length (now text) ≡ 192 ⌝ }
@@ -279,14 +293,16 @@ impl Listing {
         list_all(self, store, input, output)
     }
 
-    // Writes what follows the lines of the records over the head of the output, and answers its
-    // length: the line of a damaged record, if the listing stops at one, and the count. Refuses
-    // with ROOM, and then writes nothing.
-    pub fn end(self, stops: bool, output: &mut [u8]) -> Outcome
-        ensures { λ r. ⌜ outcome·meaning r ≡ answer (ending self stops (length (now (output .entry)))) ⌝ }
-        ensures { λ _. ⌜ now (output .exit) ≡ over·after (ending self stops (length (now (output .entry)))) (now (output .entry)) ⌝ }
+    // Ends the listing where no more comes than what is left of the input: writes what follows the
+    // lines of the records over the head of the output, and answers its length. That is the line of
+    // a damaged record, if what is left is one or its beginning, and the count. Refuses with ROOM,
+    // and then writes nothing.
+    pub fn end(self, rest: &[u8], output: &mut [u8]) -> Outcome
+        ensures { λ r. ⌜ outcome·meaning r ≡ answer (ending self (now (rest .entry)) (length (now (output .entry)))) ⌝ }
+        ensures { λ _. ⌜ now (output .exit) ≡ over·after (ending self (now (rest .entry)) (length (now (output .entry)))) (now (output .entry)) ⌝ }
     {
         let mut text = [0u8; 192];
+        let stops = stops_at(rest);
         let n = put_end(stops, self.count, &mut text);
         if copying::copy_in(output, 0, &text[..n]) {
             return Outcome::Value(n);
