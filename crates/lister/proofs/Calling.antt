@@ -22,7 +22,7 @@ use Rattle.trace.specs.Records.{recordAt}
 use Rattle.lister.specs.declared.Listing.{Listing}
 use Rattle.lister.specs.declared.Why.the-variants.{Refused}
 use Rattle.lister.specs.Listing as room
-use Rattle.lister.specs.Listing.{Stopped, listed, endedAs, begun, listing, listingAfter, stopsAt, lastLines, ending}
+use Rattle.lister.specs.Listing.{Reached, listed, handedBack, begun, listing, listingAfter, stopsAt, lastLines, ending}
 
 pub not-true : (b : Bool) → not b ≡ true → b ≡ false
 not-true true e = cc
@@ -33,24 +33,24 @@ not-false true e = refl
 not-false false e = cc
 
 module _ (l : Listing) (store taken output : List ℕ) where
-  abbrev all-of-it : Stopped
+  abbrev all-of-it : Reached
   all-of-it = listed (length taken) (room.hasRoom output) (begun l store taken)
 
   pub at-state : not (sound Extended (l .slots)) ≡ true
       → listingAfter (record { listing = l; why = Refused State; used = 0; written = 0 }) store output ≡ listing l store taken output
   unfolding listing
-  at-state h = ap (endedAs l store taken output) (stop State _ all-of-it (not-true _ h))
+  at-state h = ap (handedBack l store taken output) (stop State _ all-of-it (not-true _ h))
 
   module _ (ok : not (sound Extended (l .slots)) ≡ false) where
     pub at-store : length store ≢ 32768
         → listingAfter (record { listing = l; why = Refused Store; used = 0; written = 0 }) store output ≡ listing l store taken output
     unfolding listing
-    at-store h = ap (endedAs l store taken output) (pass State _ all-of-it (not-false _ ok) (stop Store _ all-of-it (ne-eqb _ _ h)))
+    at-store h = ap (handedBack l store taken output) (pass State _ all-of-it (not-false _ ok) (stop Store _ all-of-it (ne-eqb _ _ h)))
 
-    pub at-all : length store ≡ 32768 → endedAs l store taken output (value all-of-it) ≡ listing l store taken output
+    pub at-all : length store ≡ 32768 → handedBack l store taken output (value all-of-it) ≡ listing l store taken output
     unfolding listing
     at-all h =
-        ap (endedAs l store taken output) (pass State _ all-of-it (not-false _ ok) (pass Store _ all-of-it (eq-eqb _ _ h) (none-left all-of-it)))
+        ap (handedBack l store taken output) (pass State _ all-of-it (not-false _ ok) (pass Store _ all-of-it (eq-eqb _ _ h) (none-left all-of-it)))
 
 -- ---- the end
 

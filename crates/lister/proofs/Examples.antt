@@ -12,16 +12,16 @@ use Rattle.slot.specs.Sound.{keyInRange, fits, slotSound, slotsSound, any, keys
 use Rattle.station.specs.Stations.{area, withArea}
 use Rattle.station.specs.Receive.{stepAt, deliver, receive}
 use Rattle.station.specs.Open.{opening}
-use Rattle.trace.specs.Records.{recordAt}
-use Rattle.trace.specs.Lines.{digits, decimal, field, fields, headerLine, frameLine, refusedLine, stoppedLine, countLine}
+use Rattle.trace.specs.Records.{foundBy, recordAt}
+use Rattle.trace.specs.Lines.{digits, decimal, fieldText, fieldsText, headerLine, frameLine, refusedLine, stoppedLine, countLine}
 use Rattle.lister.specs.Listing.{heard, listedOne, listed}
 use Rattle.lister.specs.Claims.{program}
-use Rattle.lister.specs.Examples.{EmptyInput, Example}
+use Rattle.lister.specs.Examples.{EmptyInput, ListingExample}
 
 pub empty-input : EmptyInput
-unfolding EmptyInput program listed recordAt headerLine countLine field decimal digits
+unfolding EmptyInput program listed foundBy recordAt headerLine countLine fieldText decimal digits
 empty-input = refl
 
-pub example : Example
-unfolding Example program listed listedOne heard recordAt allTrue allAfter inRange guarded written flagOf layout pieceRule checks judge appended followed stepped step sameFields sameKey place keyInRange fits slotSound slotsSound any keysDiffer sound area withArea stepAt deliver receive opening digits decimal field fields headerLine frameLine refusedLine stoppedLine countLine
+pub example : ListingExample
+unfolding ListingExample program listed listedOne heard foundBy recordAt allTrue allAfter inRange guarded written flagOf layout pieceRule checks judge appended followed stepped step sameFields sameKey place keyInRange fits slotSound slotsSound any keysDiffer sound area withArea stepAt deliver receive opening digits decimal fieldText fieldsText headerLine frameLine refusedLine stoppedLine countLine
 example = refl

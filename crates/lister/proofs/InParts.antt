@@ -25,7 +25,7 @@ use Rattle.trace.specs.Lines.{headerLine}
 use Rattle.lister.specs.declared.Listing.{Listing}
 use Rattle.lister.specs.declared.Why.{Why}
 use Rattle.lister.specs.declared.Why.the-variants as why
-use Rattle.lister.specs.Listing.{newListing, extendedStation, heard, lineFor, next, Stand, listedOne, room, Stopped, stopped, listedBy, listed, hasRoom, begun, lastLines, ending, meaning}
+use Rattle.lister.specs.Listing.{newListing, extendedStation, heard, lineFor, next, Stand, listedOne, room, Reached, reached, listedBy, listed, hasRoom, begun, lastLines, ending, meaning}
 use Rattle.lister.specs.Claims.{soundListing, listingAt, everything, program, printed, Part, arrived, called, inParts, InParts, Printed, OneWhy}
 use Rattle.lister.proofs.Rounds.{enough, unrolled}
 use Rattle.lister.proofs.Soundness.{listed-good, is-listed, rest-is, text-is}
@@ -40,8 +40,8 @@ plus s more = record { slots = s .slots; store = s .store; count = s .count; res
 abbrev behind : List ℕ → Stand → Stand
 behind t s = record { slots = s .slots; store = s .store; count = s .count; rest = s .rest; text = t ++ s .text }
 
-abbrev all-behind : List ℕ → Stopped → Stopped
-all-behind t r = stopped (r .why) (behind t (r .stand))
+abbrev all-behind : List ℕ → Reached → Reached
+all-behind t r = reached (r .why) (behind t (r .stand))
 
 -- ---- what has been written plays no part
 
@@ -103,7 +103,7 @@ whole-stays s more bus image size e = arriving (s .rest) more not-cut not-none �
 
 at-whole : (b : Bool) (n : ℕ) (space : ℕ → Bool) (s : Stand) (more : List ℕ) (bus : ℕ) (image : List ℕ) (size : ℕ) → recordAt (s .rest) ≡ whole bus image size
     → ((s′ : Stand) → everything (plus s′ more) ≡ everything (plus (listed n space s′ .stand) more))
-    → everything (plus s more) ≡ everything (plus (cond b (listed n space (listedOne s bus image size)) (stopped room s) .stand) more)
+    → everything (plus s more) ≡ everything (plus (cond b (listed n space (listedOne s bus image size)) (reached room s) .stand) more)
 unfolding Sized
 at-whole true n space s more bus image size e ih =
     once (plus s more) bus image size (whole-stays s more bus image size e)
@@ -160,7 +160,7 @@ in-parts s (part ∷ parts) ok full =
 -- ---- when no whole record is left
 
 at-end : (s : Stand) → ((bus : ℕ) (image : List ℕ) (size : ℕ) → recordAt (s .rest) ≢ whole bus image size) → everything s .stand ≡ s
-at-end s h = ap (λ (x : Stopped). x .stand) (unrolled (length (s .rest)) always s (omega arith)) ∙ go (recordAt (s .rest)) refl
+at-end s h = ap (λ (x : Reached). x .stand) (unrolled (length (s .rest)) always s (omega arith)) ∙ go (recordAt (s .rest)) refl
   where
     go : (f : Found) → recordAt (s .rest) ≡ f → listedBy always s f (listed (length (s .rest) - 1) always) .stand ≡ s
     go none e = refl
@@ -185,7 +185,7 @@ pub printed-so : Printed
 unfolding Printed InParts program
 printed-so store parts output n full h e =
     let s = inParts (begun newListing store []) parts in
-    ap (λ (x : Stopped). printed (x .stand)) (in-parts (begun newListing store []) parts (met .new Extended) full)
+    ap (λ (x : Reached). printed (x .stand)) (in-parts (begun newListing store []) parts (met .new Extended) full)
     ∙ ap printed (at-end s h)
     ∙ ap (λ (x : List ℕ). headerLine ++ (s .text ++ x)) (sym (at-last (listingAt s) (s .rest) output n e))
 

@@ -13,7 +13,7 @@ use Rattle.trace.specs.Records.{whole, recordAt}
 use Rattle.trace.specs.Lines.{headerLine}
 use Rattle.lister.specs.declared.Listing.{Listing}
 use Rattle.lister.specs.declared.Why.{Why}
-use Rattle.lister.specs.Listing.{newListing, extendedStation, Stand, Stopped, listed, begun, Ended, listing, lastLines, ending, meaning}
+use Rattle.lister.specs.Listing.{newListing, extendedStation, Stand, Reached, listed, begun, AfterListing, listing, lastLines, ending, meaning}
 
 -- ---- the program
 
@@ -24,7 +24,7 @@ abbrev pub listingAt : Stand → Listing
 listingAt s = record { slots = s .slots; count = s .count }
 
 -- all records of what is left, whatever room their lines take
-abbrev pub everything : Stand → Stopped
+abbrev pub everything : Stand → Reached
 everything s = listed (length (s .rest)) (λ n. true) s
 
 -- "It prints the header, one line a record, and the count", and of a damaged record "its number and "stopped""
@@ -38,8 +38,8 @@ program store taken = printed (everything (begun newListing store taken) .stand)
 -- ---- a listing stays sound
 
 -- with sound slots and a full-size store no call is refused, and what it hands back is sound and full-size again; so is a new listing
-unfoldable pub StaysSound : Type 0
-StaysSound =
+unfoldable pub ListingStaysSound : Type 0
+ListingStaysSound =
     (soundListing newListing ≡ true)
     × ((l : Listing) (store taken output : List ℕ) → soundListing l ≡ true → fullSize store ≡ true
     → let r = listing l store taken output in
@@ -60,7 +60,7 @@ arrived (part ∷ parts) = part .bytes ++ arrived parts
 unfoldable pub called : Stand → Part → Stand
 called s part =
     let taken : List ℕ = s .rest ++ part .bytes in
-    let r : Ended = listing (listingAt s) (s .store) taken (part .output) in
+    let r : AfterListing = listing (listingAt s) (s .store) taken (part .output) in
     record {
       slots = r .listing .slots;
       store = r .store;

@@ -16,16 +16,16 @@ EmptyInput =
     ≡ ascii "record bus priority source group dest flag number function count answer\nrecords 0\n"
 
 -- its four records
-abbrev pub input : List ℕ
-input =
+abbrev pub exampleInput : List ℕ
+exampleInput =
     (0x00 ∷ 0x08 ∷ 0x01 ∷ 0x00 ∷ 0x81 ∷ 0x45 ∷ 0x00 ∷ 0xC0 ∷ 0x10 ∷ 0x07 ∷ [])
     ++ ((0x00 ∷ 0x0F ∷ 0x01 ∷ 0x01 ∷ 0x88 ∷ 0x06 ∷ 0x00 ∷ 0x40 ∷ 0x10 ∷ 0x30 ∷ 0x30 ∷ 0x34 ∷ 0x31 ∷ 0x32 ∷ 0x37 ∷ 0x30 ∷ 0x31 ∷ [])
     ++ ((0x00 ∷ 0x08 ∷ 0x01 ∷ 0x01 ∷ 0x81 ∷ 0x06 ∷ 0x00 ∷ 0x81 ∷ 0x10 ∷ 0x39 ∷ [])
     ++ (0x00 ∷ 0x07 ∷ 0x01 ∷ 0x00 ∷ 0xC0 ∷ 0x45 ∷ 0x00 ∷ 0xC0 ∷ 0x10 ∷ [])))
 
-unfoldable pub Example : Type 0
-Example =
-    program zeros input
+unfoldable pub ListingExample : Type 0
+ListingExample =
+    program zeros exampleInput
     ≡ ascii "record bus priority source group dest flag number function count answer\n"
     ++ (ascii "1 A 1 5 0 0 3 0 2 1 packet 1\n"
     ++ (ascii "2 B 0 6 0 0 1 0 2 8 kept\n"

@@ -17,7 +17,7 @@ use stream::Answer;
 use stream::Area;
 use stream::Progress;
 use trace::Entry;
-use trace::LONGEST_LINE;
+use trace::LINE_ROOM;
 use trace::Line;
 ghost use mathlib.Core.Path.{_≡_};
 ghost use mathlib.Core.Bool.{true};
@@ -34,10 +34,12 @@ ghost use Rattle.slot.specs.Slots.{openSlot};
 ghost use Rattle.slot.specs.Sound.{sound};
 ghost use Rattle.station.specs.Receive.{keyOf, afterTurn};
 ghost use Rattle.station.specs.Parts.{frameOf, Steps};
-ghost use Rattle.lister.specs.Listing.{newListing, extendedStation, heard, listed, hasRoom, begun, endedAs, listing, listingAfter, stopsAt, endText, ending};
+ghost use Rattle.lister.specs.Listing.{newListing, extendedStation, heard, listed, hasRoom, begun, handedBack, listing, listingAfter, stopsAt, endText, ending};
 ghost use Rattle.trace.specs.Records.{recordAt};
 ghost use Rattle.trace.specs.Lines.{lineText, lineInRange};
 ghost use Rattle.lister.specs.Parts.{Heads, Tells, Adds};
+ghost use Rattle.lister.specs.Claims.{ListingStaysSound, InParts, Printed, OneWhy};
+ghost use Rattle.lister.specs.Examples.{EmptyInput, ListingExample};
 
 // Where a listing stands between two parts of its trace: the slots, and how many records it has
 // listed.
@@ -236,7 +238,7 @@ fn ended(slots: [Slot; 16], count: u64, why: Why, used: usize, written: usize) -
 // Lists what stands in the input, in sound slots and with a full-size store.
 fn list_all(listing: Listing, store: &mut [u8], input: &[u8], output: &mut [u8]) -> Listed
     requires { ⌜ (sound Extended (listing .slots) ≡ true) × (length (now store) ≡ 32768) ⌝ }
-    ensures { λ r. ⌜ listingAfter r (now (store .exit)) (now (output .exit)) ≡ endedAs listing (now (store .entry)) (now (input .entry)) (now (output .entry)) (value (listed (length (now (input .entry))) (hasRoom (now (output .entry))) (begun listing (now (store .entry)) (now (input .entry))))) ⌝ }
+    ensures { λ r. ⌜ listingAfter r (now (store .exit)) (now (output .exit)) ≡ handedBack listing (now (store .entry)) (now (input .entry)) (now (output .entry)) (value (listed (length (now (input .entry))) (hasRoom (now (output .entry))) (begun listing (now (store .entry)) (now (input .entry))))) ⌝ }
 {
     let mut slots = listing.slots;
     let mut count = listing.count;
@@ -248,7 +250,7 @@ fn list_all(listing: Listing, store: &mut [u8], input: &[u8], output: &mut [u8])
             Entry::Cut => return ended(slots, count, Why::Input, used, written),
             Entry::Damaged => return ended(slots, count, Why::Damaged, used, written),
             Entry::Record { bus, size } => {
-                if output.len() - written < LONGEST_LINE {
+                if output.len() - written < LINE_ROOM {
                     return ended(slots, count, Why::Room, used, written);
                 }
                 count = std::num::wrapping_add_u64(count, 1);
@@ -310,3 +312,13 @@ impl Listing {
         Outcome::Refused(Refusal::Room)
     }
 }
+
+// The claims of this crate. It does nothing: its contract ties each claim to its proof.
+pub fn promised()
+    ensures listing_stays_sound { λ _. ⌜ ListingStaysSound ⌝ }
+    ensures in_parts { λ _. ⌜ InParts ⌝ }
+    ensures printed { λ _. ⌜ Printed ⌝ }
+    ensures one_why { λ _. ⌜ OneWhy ⌝ }
+    ensures empty_input { λ _. ⌜ EmptyInput ⌝ }
+    ensures listing_example { λ _. ⌜ ListingExample ⌝ }
+{}

@@ -82,7 +82,7 @@ fn turn(session: Session, store: &mut [u8], input: &mut [u8], output: &mut [u8])
             going: true,
         },
         Why::Damaged => end(listing, &input[0..left], output),
-        // Never: the listing stays sound (claim StaysSound of lister), and the store has its size.
+        // Never: the listing stays sound (claim ListingStaysSound of lister), and the store has its size.
         Why::Refused(_) => ended(listing),
     }
 }

@@ -53,9 +53,6 @@ cases input = at-size (eqb (length input) 0) refl (ltb (length input) 2) refl
     at-size false e true f = one (eqb-false _ _ e) (ltb-true _ _ f)
     at-size false e false f = at-right (ltb-false _ _ f) (not (right input)) refl
 
-some : (input : List ℕ) → 2 ≤ length input → length input ≢ 0
-some input two e = omega arith
-
 module _ (input more : List ℕ) where
   same : (i : ℕ) → i < length input → getD (input ++ more) i 0 ≡ getD input i 0
   same i h = List·getD-append input more 0 i h
@@ -80,22 +77,22 @@ module _ (input more : List ℕ) where
   arrive (empty e) nc nn = absurd (nn (sym (at-none input e)))
   arrive (one s h) nc nn = absurd (nc (sym (at-one input s h)))
   arrive (wrong two r) nc nn =
-      sym (at-length (input ++ more) _ refl (some (input ++ more) (omega (arith, longer))) (omega (arith, longer)) (same-right two true r))
-      ∙ at-length input _ refl (some input two) two r
-  arrive (short two r h) nc nn = absurd (nc (sym (at-cut input _ refl (some input two) two r h)))
+      sym (at-length (input ++ more) _ refl (omega (arith, longer)) (same-right two true r))
+      ∙ at-length input _ refl two r
+  arrive (short two r h) nc nn = absurd (nc (sym (at-cut input _ refl two r h)))
   arrive (unknown two r long k) nc nn =
       let four : 4 ≤ length input = omega (arith, at-least (follows input) r) in
-      sym (at-damaged (input ++ more) _ refl (some (input ++ more) (omega (arith, longer))) (omega (arith, longer)) (same-right two false r)
+      sym (at-damaged (input ++ more) _ refl (omega (arith, longer)) (same-right two false r)
       (omega (arith, longer, same-follows two)) (same-known four true k))
-      ∙ at-damaged input _ refl (some input two) two r long k
+      ∙ at-damaged input _ refl two r long k
   arrive (full two r long k) nc nn =
       let f : 2 ≤ follows input = at-least (follows input) r in
       let four : 4 ≤ length input = omega arith in
-      sym (at-whole (input ++ more) _ refl (some (input ++ more) (omega (arith, longer))) (omega (arith, longer)) (same-right two false r)
+      sym (at-whole (input ++ more) _ refl (omega (arith, longer)) (same-right two false r)
       (omega (arith, longer, same-follows two)) (same-known four false k))
       ∙ (λ j. whole (same 3 (omega arith) j) (imageIn (2 + same-follows two j) (input ++ more)) (2 + same-follows two j))
       ∙ ap (λ (x : List ℕ). whole (getD input 3 0) x (2 + follows input)) (same-image (2 + follows input) (omega arith) long)
-      ∙ at-whole input _ refl (some input two) two r long k
+      ∙ at-whole input _ refl two r long k
 
 pub arriving : Arriving
 unfolding Arriving
@@ -106,13 +103,13 @@ size-in : (input : List ℕ) (bus : ℕ) (image : List ℕ) (size : ℕ) → rec
 size-in input bus image size e (empty h) = let z = at-none input h ∙ e in let y : _≡_ {A = ℕ} 0 1 = cc in absurd (omega arith)
 size-in input bus image size e (one s h) = let z = at-one input s h ∙ e in let y : _≡_ {A = ℕ} 0 1 = cc in absurd (omega arith)
 size-in input bus image size e (wrong two r) =
-    let z = at-length input _ refl (some input two) two r ∙ e in let y : _≡_ {A = ℕ} 0 1 = cc in absurd (omega arith)
+    let z = at-length input _ refl two r ∙ e in let y : _≡_ {A = ℕ} 0 1 = cc in absurd (omega arith)
 size-in input bus image size e (short two r h) =
-    let z = at-cut input _ refl (some input two) two r h ∙ e in let y : _≡_ {A = ℕ} 0 1 = cc in absurd (omega arith)
+    let z = at-cut input _ refl two r h ∙ e in let y : _≡_ {A = ℕ} 0 1 = cc in absurd (omega arith)
 size-in input bus image size e (unknown two r long k) =
-    let z = at-damaged input _ refl (some input two) two r long k ∙ e in let y : _≡_ {A = ℕ} 0 1 = cc in absurd (omega arith)
+    let z = at-damaged input _ refl two r long k ∙ e in let y : _≡_ {A = ℕ} 0 1 = cc in absurd (omega arith)
 size-in input bus image size e (full two r long k) =
-    let z = at-whole input _ refl (some input two) two r long k ∙ e in
+    let z = at-whole input _ refl two r long k ∙ e in
     let n : 2 + follows input ≡ size = cc in
     let b : getD input 3 0 ≡ bus = cc in
     (omega (arith, n, at-least (follows input) r), omega (arith, n), omega (arith, b, leb-true (getD input 3 0) 1 (both-right (eqb (getD input 2 0) 1) (leb (getD input 3 0) 1) k)))

@@ -1,5 +1,5 @@
 mod Reading
 mod Texts
 mod Writing
-pub mod Longest
+pub mod LineRoom
 pub mod Arriving

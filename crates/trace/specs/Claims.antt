@@ -1,4 +1,4 @@
--- What is proved of lines and records; proofs/Longest.antt and proofs/Arriving.antt have the proofs.
+-- What is proved of lines and records; proofs/LineRoom.antt and proofs/Arriving.antt have the proofs.
 use Prim.Native.Nat.{ℕ, _≤_}
 use mathlib.Core.Path.{_≡_}
 use mathlib.Core.Logic.{_≢_}
@@ -10,9 +10,9 @@ use Rattle.trace.specs.declared.Line.{Line}
 use Rattle.trace.specs.Records.{Found, whole, cut, none, recordAt, meaning}
 use Rattle.trace.specs.Lines.{lineText, lineInRange}
 
--- no line that is not refused by FIELD has more than 96 bytes (`LONGEST_LINE`)
-unfoldable pub Longest : Type 0
-Longest = (line : Line) → lineInRange line ≡ true → length (lineText line) ≤ 96
+-- no line that is not refused by FIELD has more than 96 bytes (`LINE_ROOM`)
+unfoldable pub RoomForLine : Type 0
+RoomForLine = (line : Line) → lineInRange line ≡ true → length (lineText line) ≤ 96
 
 -- what stands at the head of the bytes that are there stays when more arrive, unless they end inside a record or there is none
 unfoldable pub Arriving : Type 0
