@@ -79,7 +79,8 @@ inParts s (part ∷ parts) = inParts (called s part) parts
 unfoldable pub InParts : Type 0
 InParts =
     (s : Stand) (parts : List Part) → soundListing (listingAt s) ≡ true → fullSize (s .store) ≡ true
-    → everything (record { slots = s .slots; store = s .store; count = s .count; rest = s .rest ++ arrived parts; text = s .text }) ≡ everything (inParts s parts)
+    → everything (record { slots = s .slots; store = s .store; count = s .count; rest = s .rest ++ arrived parts; text = s .text })
+    ≡ everything (inParts s parts)
 
 -- so when no whole record is left, the program's output is the header, what the calls wrote, and what the call that ends the listing on
 -- what is left writes to an output that has room for it

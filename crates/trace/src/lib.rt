@@ -16,7 +16,8 @@ ghost use Rattle.packet.specs.Send.{answer, outputAfter};
 ghost use Rattle.trace.specs.Records.{recordAt, meaning};
 ghost use Rattle.trace.specs.Lines.{ascii, decimal, fieldText, fieldsText, busName, brokeOr, answerText, columns, frameLine, refusedLine, stoppedLine, countLine, lineText, extendedInRange, lineInRange, writing};
 ghost use Rattle.trace.specs.Parts.{Put};
-ghost use Rattle.trace.specs.Claims.{RoomForLine, Arriving, Sized, OneEntry};
+ghost use Rattle.trace.specs.Claims.{RoomForLine, Decimal, Arriving, Sized, OneEntry};
+ghost use Rattle.trace.specs.Bounds.{RecordBounds, LineTexts, LinesRefused};
 
 // What stands at the head of a trace's bytes.
 pub enum Entry {
@@ -382,7 +383,11 @@ pub fn write_line(line: Line, output: &mut [u8]) -> Outcome
 // The claims of this crate. It does nothing: its contract ties each claim to its proof.
 pub fn promised()
     ensures room_for_line { λ _. ⌜ RoomForLine ⌝ }
+    ensures decimal { λ _. ⌜ Decimal ⌝ }
     ensures arriving { λ _. ⌜ Arriving ⌝ }
     ensures sized { λ _. ⌜ Sized ⌝ }
     ensures one_entry { λ _. ⌜ OneEntry ⌝ }
+    ensures record_bounds { λ _. ⌜ RecordBounds ⌝ }
+    ensures line_texts { λ _. ⌜ LineTexts ⌝ }
+    ensures lines_refused { λ _. ⌜ LinesRefused ⌝ }
 {}
