@@ -39,7 +39,7 @@ ghost use Rattle.trace.specs.Records.{recordAt};
 ghost use Rattle.trace.specs.Lines.{lineText, lineInRange};
 ghost use Rattle.lister.specs.Parts.{Heads, Tells, Adds};
 ghost use Rattle.lister.specs.Claims.{ListingStaysSound, InParts, Printed, OneWhy};
-ghost use Rattle.lister.specs.Examples.{EmptyInput, ListingExample};
+ghost use Rattle.lister.specs.Examples.{ListingExamples, ListingBounds};
 
 // Where a listing stands between two parts of its trace: the slots, and how many records it has
 // listed.
@@ -319,6 +319,6 @@ pub fn promised()
     ensures in_parts { λ _. ⌜ InParts ⌝ }
     ensures printed { λ _. ⌜ Printed ⌝ }
     ensures one_why { λ _. ⌜ OneWhy ⌝ }
-    ensures empty_input { λ _. ⌜ EmptyInput ⌝ }
-    ensures listing_example { λ _. ⌜ ListingExample ⌝ }
+    ensures listing_examples { λ _. ⌜ ListingExamples ⌝ }
+    ensures listing_bounds { λ _. ⌜ ListingBounds ⌝ }
 {}

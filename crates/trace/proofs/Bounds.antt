@@ -5,16 +5,16 @@ use Rattle.format.specs.Formats.{inRange}
 use Rattle.format.specs.Refusals.{guarded}
 use Rattle.trace.specs.Records.{foundBy, recordAt}
 use Rattle.trace.specs.Lines.{digits, decimal, fieldText, fieldsText, headerLine, frameLine, refusedLine, stoppedLine, countLine, lineText, lineInRange, writing}
-use Rattle.trace.specs.Bounds.{found, expected, RecordBounds, LineTexts, LinesRefused}
+use Rattle.trace.specs.Bounds.{results, expected, RecordBounds, LineTexts, LinesRefused}
 
 pub record-bounds : RecordBounds
-unfolding RecordBounds found expected recordAt foundBy
+unfolding RecordBounds results expected recordAt foundBy
 record-bounds = refl
 
 pub line-texts : LineTexts
-unfolding LineTexts found expected lineText headerLine frameLine refusedLine stoppedLine countLine fieldText fieldsText decimal digits
+unfolding LineTexts results expected lineText headerLine frameLine refusedLine stoppedLine countLine fieldText fieldsText decimal digits
 line-texts = refl
 
 pub lines-refused : LinesRefused
-unfolding LinesRefused found expected lineInRange inRange allTrue allAfter writing guarded lineText refusedLine countLine fieldText decimal digits
+unfolding LinesRefused results expected lineInRange inRange allTrue allAfter writing guarded lineText refusedLine countLine fieldText decimal digits
 lines-refused = (refl, refl, refl)

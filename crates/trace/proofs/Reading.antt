@@ -29,53 +29,81 @@ both-left : (a b : Bool) → not (a && b) ≡ false → a ≡ true
 both-left true b e = refl
 both-left false b e = cc
 
-pub both-right : (a b : Bool) → not (a && b) ≡ false → b ≡ true
+both-right : (a b : Bool) → not (a && b) ≡ false → b ≡ true
 both-right true true e = refl
 both-right true false e = cc
 both-right false b e = cc
 
-pub at-least : (follows : ℕ) → not (leb 2 follows && leb follows 15) ≡ false → 2 ≤ follows
-at-least follows h = leb-true 2 follows (both-left (leb 2 follows) (leb follows 15) h)
+-- the tests of the length, and of the version and the bus
+abbrev least : (follows : ℕ) → Bool
+least follows = leb 2 follows
+
+abbrev most : (follows : ℕ) → Bool
+most follows = leb follows 15
+
+abbrev is-version : ℕ → Bool
+is-version n = eqb n 1
+
+abbrev is-bus : ℕ → Bool
+is-bus n = leb n 1
+
+abbrev pub right : (follows : ℕ) → Bool
+right follows = least follows && most follows
+
+abbrev pub known : (version bus : ℕ) → Bool
+known version bus = is-version version && is-bus bus
+
+pub at-least : (follows : ℕ) → not (right follows) ≡ false → 2 ≤ follows
+at-least follows h = leb-true 2 follows (both-left (least follows) (most follows) h)
+
+pub bus-known : (version bus : ℕ) → not (known version bus) ≡ false → bus ≤ 1
+bus-known version bus h = leb-true bus 1 (both-right (is-version version) (is-bus bus) h)
 
 -- the record's length as the code reads it
 module _ (input : List ℕ) (follows : ℕ) (read : follows ≡ getD input 0 0 * 256 + getD input 1 0) where
+  abbrev version : ℕ
+  version = getD input 2 0
+
+  abbrev bus : ℕ
+  bus = getD input 3 0
+
   abbrev all-of-it : Found
-  all-of-it = whole (getD input 3 0) (imageIn (2 + follows) input) (2 + follows)
+  all-of-it = whole bus (imageIn (2 + follows) input) (2 + follows)
 
-  -- the tests after the length; the last two
-  abbrev known : List Test
-  known = unless (eqb (getD input 2 0) 1) damaged ∷ unless (leb (getD input 3 0) 1) damaged ∷ []
+  -- the last tests: of the version and the bus, and before them whether all of it is there
+  abbrev last-two : List Test
+  last-two = unless (is-version version) damaged ∷ unless (is-bus bus) damaged ∷ []
 
-  abbrev there : List Test
-  there = unless (leb (2 + follows) (length input)) cut ∷ known
+  abbrev last-three : List Test
+  last-three = unless (leb (2 + follows) (length input)) cut ∷ last-two
 
   module _ (two : 2 ≤ length input) where
-    begins : foundBy (unless (leb 2 follows) damaged ∷ unless (leb follows 15) damaged ∷ there) all-of-it ≡ recordAt input
+    begins : foundBy (unless (least follows) damaged ∷ unless (most follows) damaged ∷ last-three) all-of-it ≡ recordAt input
     unfolding recordAt foundBy
     begins = rw (le-leb 1 (length input) (omega arith), le-leb 2 (length input) two, ← read)
 
-    pub at-length : not (leb 2 follows && leb follows 15) ≡ true → damaged ≡ recordAt input
-    at-length h = one-fails (leb 2 follows) (leb follows 15) damaged there all-of-it h ∙ begins
+    pub at-length : not (right follows) ≡ true → damaged ≡ recordAt input
+    at-length h = one-fails (least follows) (most follows) damaged last-three all-of-it h ∙ begins
 
-    module _ (sized : not (leb 2 follows && leb follows 15) ≡ false) where
-      past : foundBy there all-of-it ≡ recordAt input
-      past = both-hold (leb 2 follows) (leb follows 15) damaged there all-of-it sized ∙ begins
+    module _ (sized : not (right follows) ≡ false) where
+      past : foundBy last-three all-of-it ≡ recordAt input
+      past = both-hold (least follows) (most follows) damaged last-three all-of-it sized ∙ begins
 
       pub at-cut : length input < 2 + follows → cut ≡ recordAt input
       unfolding foundBy
       at-cut h = sym (rw (lt-leb (2 + follows) (length input) h)) ∙ past
 
       module _ (long : 2 + follows ≤ length input) where
-        within : foundBy known all-of-it ≡ recordAt input
+        within : foundBy last-two all-of-it ≡ recordAt input
         unfolding foundBy
         within = sym (rw (le-leb (2 + follows) (length input) long)) ∙ past
 
-        pub at-damaged : not (eqb (getD input 2 0) 1 && leb (getD input 3 0) 1) ≡ true → damaged ≡ recordAt input
-        at-damaged h = one-fails (eqb (getD input 2 0) 1) (leb (getD input 3 0) 1) damaged [] all-of-it h ∙ within
+        pub at-damaged : not (known version bus) ≡ true → damaged ≡ recordAt input
+        at-damaged h = one-fails (is-version version) (is-bus bus) damaged [] all-of-it h ∙ within
 
-        pub at-whole : not (eqb (getD input 2 0) 1 && leb (getD input 3 0) 1) ≡ false → all-of-it ≡ recordAt input
+        pub at-whole : not (known version bus) ≡ false → all-of-it ≡ recordAt input
         unfolding foundBy
-        at-whole h = both-hold (eqb (getD input 2 0) 1) (leb (getD input 3 0) 1) damaged [] all-of-it h ∙ within
+        at-whole h = both-hold (is-version version) (is-bus bus) damaged [] all-of-it h ∙ within
 
 pub at-none : (input : List ℕ) → length input ≡ 0 → none ≡ recordAt input
 unfolding recordAt foundBy

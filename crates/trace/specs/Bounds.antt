@@ -21,16 +21,16 @@ pub data Row (A B : Type 0) : Type 0 where
   row : A → B → Row A B
 
 -- what comes of each that is asked, and what is to come
-unfoldable pub found : {A B : Type 0} → (A → B) → List (Row A B) → List B
-found f [] = []
-found f (row a b ∷ rows) = f a ∷ found f rows
+unfoldable pub results : {A B : Type 0} → (A → B) → List (Row A B) → List B
+results f [] = []
+results f (row a b ∷ rows) = f a ∷ results f rows
 
 unfoldable pub expected : {A B : Type 0} → List (Row A B) → List B
 expected [] = []
 expected (row a b ∷ rows) = b ∷ expected rows
 
 abbrev pub AllAs : {A B : Type 0} → (A → B) → List (Row A B) → Type 0
-AllAs f rows = found f rows ≡ expected rows
+AllAs f rows = results f rows ≡ expected rows
 
 -- ---- records
 
