@@ -1,12 +1,12 @@
--- What is proved of listings, and document 01's listing program as a whole: proofs/InParts.antt
--- and, of the first claim, proofs/Soundness.antt have the proofs.
+-- What is proved of listings, and document 01's listing program as a whole. The proofs stand in proofs/Soundness.antt (the first claim),
+-- proofs/InParts.antt and proofs/Answers.antt (the last).
 use Prim.Native.Nat.{ℕ}
 use mathlib.Core.Path.{_≡_}
 use mathlib.Core.Logic.{_≢_}
 use mathlib.Core.Bool.{Bool, true, false}
 use mathlib.Core.List.{List, [], _∷_, _++_}
 use lib.ListN.{length, take, drop}
-use Rattle.format.specs.Refusals.{value, refused}
+use Rattle.format.specs.Refusals.{Result, value, refused}
 use Rattle.packet.specs.Send.{answer, outputAfter}
 use Rattle.station.specs.Stations.{soundStation, fullSize}
 use Rattle.trace.specs.Records.{whole, recordAt}
@@ -74,24 +74,36 @@ unfoldable pub inParts : Stand → List Part → Stand
 inParts s [] = s
 inParts s (part ∷ parts) = inParts (called s part) parts
 
+-- what is left has no whole record at its head
+abbrev pub NoWhole : Stand → Type 0
+NoWhole s = (bus : ℕ) (image : List ℕ) (size : ℕ) → recordAt (s .rest) ≢ whole bus image size
+
+-- the call that ends the listing where it stands, in an output of `space` bytes
+abbrev pub endedAt : Stand → (space : ℕ) → Result (List ℕ)
+endedAt s space = ending (listingAt s) (s .rest) space
+
 -- whatever parts the input arrives in, and whatever outputs are lent: what was written, followed by what is still to be listed of what
--- is left, is what would have been written had all of it been there at once
+-- is left, is what would have been written had all of it been there at once; and where no whole record is left, the listing ends as it
+-- would have ended then
 unfoldable pub InParts : Type 0
 InParts =
     (s : Stand) (parts : List Part) → soundListing (listingAt s) ≡ true → fullSize (s .store) ≡ true
-    → everything (record { slots = s .slots; store = s .store; count = s .count; rest = s .rest ++ arrived parts; text = s .text })
-    ≡ everything (inParts s parts)
+    → let arrivedAtOnce : Stand =
+    record { slots = s .slots; store = s .store; count = s .count; rest = s .rest ++ arrived parts; text = s .text } in
+    let last : Stand = inParts s parts in
+    (everything arrivedAtOnce ≡ everything last)
+    × (NoWhole last → (space : ℕ) → endedAt (everything arrivedAtOnce .stand) space ≡ endedAt last space)
 
--- so when no whole record is left, the program's output is the header, what the calls wrote, and what the call that ends the listing on
--- what is left writes to an output that has room for it
+-- so when no whole record is left, the program's output is the header, what the calls wrote, and what the call that ends the listing
+-- writes to an output that has room for it
 unfoldable pub Printed : Type 0
 Printed =
     (store : List ℕ) (parts : List Part) (output : List ℕ) (n : ℕ) → fullSize store ≡ true
-    → let s = inParts (begun newListing store []) parts in
-    let r = ending (listingAt s) (s .rest) (length output) in
-    ((bus : ℕ) (image : List ℕ) (size : ℕ) → recordAt (s .rest) ≢ whole bus image size)
-    → answer r ≡ value n
-    → program store (arrived parts) ≡ headerLine ++ (s .text ++ take n (outputAfter r output))
+    → let last : Stand = inParts (begun newListing store []) parts in
+    let ends : Result (List ℕ) = endedAt last (length output) in
+    NoWhole last
+    → answer ends ≡ value n
+    → program store (arrived parts) ≡ headerLine ++ (last .text ++ take n (outputAfter ends output))
 
 -- ---- the answer
 
