@@ -21,6 +21,7 @@ use crate::stations::lent_of;
 use lister::Listed;
 use lister::Listing;
 use lister::Why;
+ghost use mathlib.Core.Path.{_≡_};
 
 // The size of an answer with the count.
 const WITH_COUNT: usize = 12;
@@ -29,7 +30,9 @@ const WITH_COUNT: usize = 12;
 const WITH_SIZES: usize = 16;
 
 // The desk with the slots and the count of a listing.
-fn with_listing(desk: Desk, listing: Listing) -> Desk {
+fn with_listing(desk: Desk, listing: Listing) -> Desk
+    ensures { λ r. ⌜ r ≡ record { station = record { format = desk .station .format; slots = listing .slots }; lent = desk .lent; front = desk .front; count = listing .count } ⌝ }
+{
     let slots = listing.slots;
     let mut station = desk.station;
     station.slots = slots;
@@ -39,7 +42,9 @@ fn with_listing(desk: Desk, listing: Listing) -> Desk {
     next
 }
 
-fn listing_of(desk: Desk) -> Listing {
+fn listing_of(desk: Desk) -> Listing
+    ensures { λ r. ⌜ r ≡ record { slots = desk .station .slots; count = desk .count } ⌝ }
+{
     let station = desk.station;
     let slots = station.slots;
     Listing {
