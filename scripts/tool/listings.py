@@ -7,7 +7,7 @@ from words import FLAGS
 
 LINES = ["header", "frame", "refused", "stopped", "records"]
 ANSWERS = ["packet", "kept", "filtered", "refused"]
-LONGEST_LINE = 96  # room for any line
+LINE_ROOM = 96  # room for any line
 COUNT = 8  # bytes of a count of records
 
 
@@ -66,7 +66,7 @@ class Listings:
     def fit(self, words):
         """Writes a line in an output of one byte less than its length, then in one of its length."""
         given = line(words)
-        answer, _ = self.write_line(given, LONGEST_LINE)
+        answer, _ = self.write_line(given, LINE_ROOM)
         if answer.kind != Kind.VALUE or answer.number == 0:
             return "no line\n"
         return self.written(given, answer.number - 1) + self.written(given, answer.number)
@@ -123,13 +123,15 @@ class Listings:
         return shown
 
     def end(self, words):
-        room, stopped = words.room(), words.has("stopped")
-        response = self.bench.ask(Operation.END, bytes([stopped]) + room.to_bytes(2, "big"))
+        """Ends the listing with what is left of the trace."""
+        room = words.room()
+        left = words.bytes()
+        response = self.bench.ask(Operation.END, room.to_bytes(2, "big") + left)
         answer = response.answer()
         self.kept_count(response)
         output = response.take(room)
         response.end()
-        return f"end in {room}{', stopped' if stopped else ''}:{filled_text(answer, output)}"
+        return f"end{hex_text(left)} in {room}:{filled_text(answer, output)}"
 
     def areas(self, words):
         """Some of the store's bytes: pairs of a place and a size."""

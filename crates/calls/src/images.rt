@@ -26,9 +26,16 @@ use crate::response::put_refused;
 use crate::response::put_value;
 use filter::Filter;
 use filter::Pair;
+use format::Outcome;
 use frame::Head;
 use frame::Verdict;
 use trace::Entry;
+use trace::Line;
+ghost use mathlib.Core.Path.{_≡_};
+ghost use lib.ListN.{length, replicate};
+ghost use Rattle.format.specs.Refusals.{meaning};
+ghost use Rattle.packet.specs.Send.{answer, outputAfter};
+ghost use Rattle.trace.specs.Lines.{writing};
 
 fn count(args: &[u8], out: &mut [u8]) -> usize {
     let format = format_of(byte(args, 0));
@@ -135,13 +142,21 @@ fn record(args: &[u8], out: &mut [u8]) -> usize {
     ANSWER
 }
 
+// The call of LINE, on an output that is all '-'.
+fn line_over(line: Line, output: &mut [u8]) -> Outcome
+    ensures { λ r. ⌜ meaning r ≡ answer (writing line (length (now (output .entry)))) ⌝ }
+    ensures { λ _. ⌜ now (output .exit) ≡ outputAfter (writing line (length (now (output .entry)))) (replicate (length (now (output .entry))) 45) ⌝ }
+{
+    fill(output, b'-', 0);
+    trace::write_line(line, output)
+}
+
 fn line(args: &[u8], out: &mut [u8]) -> usize {
     let size = ANSWER + byte(args, 0) as usize;
     if size > out.len() {
         return 0;
     }
-    fill(&mut out[ANSWER..size], b'-', 0);
-    let answer = trace::write_line(line_in(args), &mut out[ANSWER..size]);
+    let answer = line_over(line_in(args), &mut out[ANSWER..size]);
     put_outcome(out, answer);
     size
 }

@@ -3,7 +3,6 @@ use crate::operations::END;
 use crate::operations::LIST;
 use crate::operations::LISTED;
 use crate::operations::LISTING;
-use crate::request::byte;
 use crate::request::long;
 use crate::request::number;
 use crate::request::rest;
@@ -19,9 +18,15 @@ use crate::stations::Desk;
 use crate::stations::Done;
 use crate::stations::kept;
 use crate::stations::lent_of;
+use format::Outcome;
 use lister::Listed;
 use lister::Listing;
 use lister::Why;
+ghost use mathlib.Core.Path.{_≡_};
+ghost use lib.ListN.{length, replicate};
+ghost use Rattle.format.specs.Refusals.{meaning};
+ghost use Rattle.packet.specs.Send.{answer, outputAfter};
+ghost use Rattle.lister.specs.Listing.{listing, listingAfter, ending};
 
 // The size of an answer with the count.
 const WITH_COUNT: usize = 12;
@@ -30,7 +35,9 @@ const WITH_COUNT: usize = 12;
 const WITH_SIZES: usize = 16;
 
 // The desk with the slots and the count of a listing.
-fn with_listing(desk: Desk, listing: Listing) -> Desk {
+fn with_listing(desk: Desk, listing: Listing) -> Desk
+    ensures { λ r. ⌜ r ≡ record { station = record { format = desk .station .format; slots = listing .slots }; lent = desk .lent; front = desk .front; count = listing .count } ⌝ }
+{
     let slots = listing.slots;
     let mut station = desk.station;
     station.slots = slots;
@@ -40,7 +47,9 @@ fn with_listing(desk: Desk, listing: Listing) -> Desk {
     next
 }
 
-fn listing_of(desk: Desk) -> Listing {
+fn listing_of(desk: Desk) -> Listing
+    ensures { λ r. ⌜ r ≡ record { slots = desk .station .slots; count = desk .count } ⌝ }
+{
     let station = desk.station;
     let slots = station.slots;
     Listing {
@@ -81,7 +90,10 @@ fn put_listed(out: &mut [u8], listed: Listed) {
     put_number(out, 14, listed.written);
 }
 
-fn list_over(desk: Desk, store: &mut [u8], input: &[u8], output: &mut [u8]) -> Listed {
+// The call of LIST, on the desk's listing and an output that is all '-'.
+fn list_over(desk: Desk, store: &mut [u8], input: &[u8], output: &mut [u8]) -> Listed
+    ensures { λ r. ⌜ listingAfter r (now (store .exit)) (now (output .exit)) ≡ listing (record { slots = desk .station .slots; count = desk .count }) (now (store .entry)) (now (input .entry)) (replicate (length (now (output .entry))) 45) ⌝ }
+{
     fill(output, b'-', 0);
     let listing = listing_of(desk);
     listing.list(store, input, output)
@@ -105,14 +117,22 @@ fn list(desk: Desk, bytes: &mut [u8], args: &[u8], out: &mut [u8]) -> Done {
     advanced(desk, listed, out, size)
 }
 
+// The call of END, in the same way.
+fn end_over(desk: Desk, input: &[u8], output: &mut [u8]) -> Outcome
+    ensures { λ r. ⌜ meaning r ≡ answer (ending (record { slots = desk .station .slots; count = desk .count }) (now (input .entry)) (length (now (output .entry)))) ⌝ }
+    ensures { λ _. ⌜ now (output .exit) ≡ outputAfter (ending (record { slots = desk .station .slots; count = desk .count }) (now (input .entry)) (length (now (output .entry)))) (replicate (length (now (output .entry))) 45) ⌝ }
+{
+    fill(output, b'-', 0);
+    let listing = listing_of(desk);
+    listing.end(input, output)
+}
+
 fn end(desk: Desk, args: &[u8], out: &mut [u8]) -> usize {
-    let size = WITH_COUNT + number(args, 1);
+    let size = WITH_COUNT + number(args, 0);
     if size > out.len() {
         return 0;
     }
-    fill(&mut out[WITH_COUNT..size], b'-', 0);
-    let listing = listing_of(desk);
-    let answer = listing.end(byte(args, 0) == 1, &mut out[WITH_COUNT..size]);
+    let answer = end_over(desk, rest(args, 2), &mut out[WITH_COUNT..size]);
     put_outcome(out, answer);
     put_long(out, 4, desk.count);
     size

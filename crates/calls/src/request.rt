@@ -8,10 +8,14 @@ use master::Kind;
 use slot::Key;
 use stream::Answer;
 use trace::Line;
-ghost use Prim.Native.Nat.{_<_};
+ghost use mathlib.Core.Path.{_≡_};
+ghost use Prim.Native.Nat.{_+_, _*_, _<_};
+ghost use lib.ListN.{getD};
 
 // The byte at a place.
-pub fn byte(args: &[u8], at: usize) -> u8 {
+pub fn byte(args: &[u8], at: usize) -> u8
+    ensures { λ r. ⌜ r ≡ getD (now (args .entry)) at 0 ⌝ }
+{
     if at < args.len() {
         return args[at];
     }
@@ -37,6 +41,7 @@ pub fn rest(args: &[u8], from: usize) -> &[u8] {
 // The two-byte number at a place.
 pub fn number(args: &[u8], at: usize) -> usize
     ensures { λ r. ⌜ r < 65536 ⌝ }
+    ensures { λ r. ⌜ r ≡ getD (now (args .entry)) at 0 * 256 + getD (now (args .entry)) (at + 1) 0 ⌝ }
 {
     if at >= args.len() {
         return 0;

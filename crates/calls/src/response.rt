@@ -10,7 +10,9 @@ use slot::Stream;
 use station::Station;
 use stream::Answer;
 use stream::Progress;
+ghost use mathlib.Core.Path.{_≡_};
 ghost use Prim.Native.Nat.{_<_};
+ghost use lib.ListN.{length, replicate};
 
 // The size of an answer.
 pub const ANSWER: usize = 4;
@@ -19,7 +21,9 @@ pub const ANSWER: usize = 4;
 pub const WITH_SLOTS: usize = 164;
 
 // Each byte is a step more than the one before it, modulo 256.
-pub fn fill(bytes: &mut [u8], first: u8, step: u8) {
+pub fn fill(bytes: &mut [u8], first: u8, step: u8)
+    ensures { λ _. ⌜ (step ≡ 0 → now (bytes .exit) ≡ replicate (length (now (bytes .entry))) first) ⌝ }
+{
     let mut next = first;
     let mut i = 0;
     while i < bytes.len() {

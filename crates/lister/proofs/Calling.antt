@@ -16,10 +16,13 @@ use Rattle.copying.specs.Copy.{written, within, copied}
 use Rattle.packet.specs.Send as over
 use Rattle.packet.specs.Send.{answer}
 use Rattle.slot.specs.Sound.{sound}
+use Rattle.trace.specs.declared.Entry.{Entry}
+use Rattle.trace.specs.Records as records
+use Rattle.trace.specs.Records.{recordAt}
 use Rattle.lister.specs.declared.Listing.{Listing}
 use Rattle.lister.specs.declared.Why.the-variants.{Refused}
 use Rattle.lister.specs.Listing as room
-use Rattle.lister.specs.Listing.{Stopped, listed, endedAs, begun, listing, listingAfter, endText, ending}
+use Rattle.lister.specs.Listing.{Reached, listed, handedBack, begun, listing, listingAfter, stopsAt, lastLines, ending}
 
 pub not-true : (b : Bool) → not b ≡ true → b ≡ false
 not-true true e = cc
@@ -30,41 +33,46 @@ not-false true e = refl
 not-false false e = cc
 
 module _ (l : Listing) (store taken output : List ℕ) where
-  abbrev all-of-it : Stopped
+  abbrev all-of-it : Reached
   all-of-it = listed (length taken) (room.hasRoom output) (begun l store taken)
 
   pub at-state : not (sound Extended (l .slots)) ≡ true
       → listingAfter (record { listing = l; why = Refused State; used = 0; written = 0 }) store output ≡ listing l store taken output
   unfolding listing
-  at-state h = ap (endedAs l store taken output) (stop State _ all-of-it (not-true _ h))
+  at-state h = ap (handedBack l store taken output) (stop State _ all-of-it (not-true _ h))
 
   module _ (ok : not (sound Extended (l .slots)) ≡ false) where
     pub at-store : length store ≢ 32768
         → listingAfter (record { listing = l; why = Refused Store; used = 0; written = 0 }) store output ≡ listing l store taken output
     unfolding listing
-    at-store h = ap (endedAs l store taken output) (pass State _ all-of-it (not-false _ ok) (stop Store _ all-of-it (ne-eqb _ _ h)))
+    at-store h = ap (handedBack l store taken output) (pass State _ all-of-it (not-false _ ok) (stop Store _ all-of-it (ne-eqb _ _ h)))
 
-    pub at-all : length store ≡ 32768 → endedAs l store taken output (value all-of-it) ≡ listing l store taken output
+    pub at-all : length store ≡ 32768 → handedBack l store taken output (value all-of-it) ≡ listing l store taken output
     unfolding listing
     at-all h =
-        ap (endedAs l store taken output) (pass State _ all-of-it (not-false _ ok) (pass Store _ all-of-it (eq-eqb _ _ h) (none-left all-of-it)))
+        ap (handedBack l store taken output) (pass State _ all-of-it (not-false _ ok) (pass Store _ all-of-it (eq-eqb _ _ h) (none-left all-of-it)))
 
 -- ---- the end
 
-module _ (l : Listing) (stops : Bool) (output : List ℕ) (n : ℕ) (bytes : List ℕ) (eb : bytes ≡ endText stops (l .count)) (en : n ≡ length (endText stops (l .count))) where
+-- whether it stops, as the code reads what is left
+pub stops-read : (rest : List ℕ) (entry x : Entry) → records.meaning entry rest ≡ recordAt rest → entry ≡ x
+    → stopsAt (records.meaning x rest) ≡ stopsAt (recordAt rest)
+stops-read rest entry x e ex = ap stopsAt (ap (λ (y : Entry). records.meaning y rest) (sym ex) ∙ e)
+
+module _ (l : Listing) (rest output : List ℕ) (n : ℕ) (bytes : List ℕ) (eb : bytes ≡ lastLines l rest) (en : n ≡ length (lastLines l rest)) where
   abbrev ends : Result ℕ → List ℕ → Type 0
-  ends r last = (r ≡ answer (ending l stops (length output))) × (last ≡ over.outputAfter (ending l stops (length output)) output)
+  ends r last = (r ≡ answer (ending l rest (length output))) × (last ≡ over.outputAfter (ending l rest (length output)) output)
 
   pub has-room : within output 0 bytes ≡ true → (last : List ℕ) → last ≡ copied output 0 bytes → ends (value n) last
   unfolding ending within copied written
   has-room h last el =
-      let p : ending l stops (length output) ≡ value (endText stops (l .count)) =
+      let p : ending l rest (length output) ≡ value (lastLines l rest) =
       sym (pass Room _ _ (sym (ap (λ (k : ℕ). leb k (length output)) (zero-add _ ∙ ap length eb)) ∙ h) (none-left _)) in
       (rw (p, en), rw (p, el, h, eb, zero-add))
 
   pub no-room : within output 0 bytes ≡ false → (last : List ℕ) → last ≡ copied output 0 bytes → ends (refused 12) last
   unfolding ending within copied
   no-room h last el =
-      let p : ending l stops (length output) ≡ refused 12 =
+      let p : ending l rest (length output) ≡ refused 12 =
       sym (stop Room _ _ (sym (ap (λ (k : ℕ). leb k (length output)) (zero-add _ ∙ ap length eb)) ∙ h)) in
       (rw p, rw (p, el, h))

@@ -1,4 +1,4 @@
--- Document 01's example of the listing holds of the definitions, by computing.
+-- The tables of examples of the listing hold of the definitions, by computing.
 use mathlib.Core.Path.{refl}
 use Rattle.format.specs.Tests.{allTrue, allAfter}
 use Rattle.format.specs.Formats.{inRange}
@@ -12,16 +12,19 @@ use Rattle.slot.specs.Sound.{keyInRange, fits, slotSound, slotsSound, any, keys
 use Rattle.station.specs.Stations.{area, withArea}
 use Rattle.station.specs.Receive.{stepAt, deliver, receive}
 use Rattle.station.specs.Open.{opening}
-use Rattle.trace.specs.Records.{recordAt}
-use Rattle.trace.specs.Lines.{digits, decimal, field, fields, headerLine, frameLine, refusedLine, stoppedLine, countLine}
+use Rattle.trace.specs.Records.{foundBy, recordAt}
+use Rattle.trace.specs.Lines.{digits, decimal, fieldText, fieldsText, headerLine, frameLine, refusedLine, stoppedLine, countLine}
+use Rattle.trace.specs.Bounds.{results, expected}
 use Rattle.lister.specs.Listing.{heard, listedOne, listed}
 use Rattle.lister.specs.Claims.{program}
-use Rattle.lister.specs.Examples.{EmptyInput, Example}
+use Rattle.lister.specs.Examples.{ListingExamples, ListingBounds}
 
-pub empty-input : EmptyInput
-unfolding EmptyInput program listed recordAt headerLine countLine field decimal digits
-empty-input = refl
+both : ListingExamples × ListingBounds
+unfolding ListingExamples ListingBounds results expected program listed listedOne heard foundBy recordAt allTrue allAfter inRange guarded checkedThen written flagOf layout pieceRule checks judge follows progressAfter followed stepped step sameFields sameKey place keyInRange fits slotSound slotsSound any keysDiffer sound area withArea stepAt deliver receive opening digits decimal fieldText fieldsText headerLine frameLine refusedLine stoppedLine countLine
+both = (refl, refl)
 
-pub example : Example
-unfolding Example program listed listedOne heard recordAt allTrue allAfter inRange guarded checkedThen written flagOf layout pieceRule checks judge follows progressAfter followed stepped step sameFields sameKey place keyInRange fits slotSound slotsSound any keysDiffer sound area withArea stepAt deliver receive opening digits decimal field fields headerLine frameLine refusedLine stoppedLine countLine
-example = refl
+pub listing-examples : ListingExamples
+listing-examples = both .0
+
+pub listing-bounds : ListingBounds
+listing-bounds = both .1

@@ -6,23 +6,22 @@ use mathlib.Core.Bool.{Bool, true, false, cond}
 use mathlib.Core.List.{List, [], _∷_, _++_, append-assoc, append-nil}
 use native.Mathlib.Omega.{arith}
 use lib.ListN.{length, take, drop, length-append, length-drop}
-use lib.Seq.{drop-append-le}
+use lib.Dec.{leb}
+use lib.Seq.{drop-append-le, take-at}
 use borrow.Author.Tests.{eq-eqb, eqb-true}
 use Rattle.format.specs.declared.Format.the-variants.{Extended}
-use Rattle.format.specs.declared.Refusal.{Refusal}
-use Rattle.format.specs.Claims.{OneNumber}
-use Rattle.format.specs.Refusals.{number}
-use Rattle.format.proofs.Numbers.{one-number}
+use Rattle.format.specs.Refusals.{value, refused, guarded}
 use Rattle.frame.specs.Judge.{judge}
+use Rattle.packet.specs.Send.{answer, outputAfter}
 use Rattle.station.specs.Stations.{fullSize}
 use Rattle.station.proofs.Soundness.{met}
 use Rattle.trace.specs.Records.{Found, whole, damaged, cut, none, recordAt}
 use Rattle.trace.specs.Claims.{Sized, Arriving}
 use Rattle.trace.proofs.Arriving.{sized, arriving}
-use Rattle.lister.specs.declared.Why.{Why}
-use Rattle.lister.specs.declared.Why.the-variants as why
-use Rattle.lister.specs.Listing.{newListing, extendedStation, heard, lineFor, next, Stand, listedOne, room, Stopped, stopped, listedBy, listed, hasRoom, begun, meaning}
-use Rattle.lister.specs.Claims.{soundListing, listingAt, everything, program, printed, Part, arrived, called, inParts, InParts, Printed, OneWhy}
+use Rattle.trace.specs.Lines.{headerLine}
+use Rattle.lister.specs.declared.Listing.{Listing}
+use Rattle.lister.specs.Listing.{newListing, extendedStation, heard, lineFor, next, Stand, listedOne, room, Reached, reached, listedBy, listed, hasRoom, begun, lastLines, ending}
+use Rattle.lister.specs.Claims.{soundListing, listingAt, everything, program, printed, Part, arrived, called, inParts, NoWhole, endedAt, InParts, Printed}
 use Rattle.lister.proofs.Rounds.{enough, unrolled}
 use Rattle.lister.proofs.Soundness.{listed-good, is-listed, rest-is, text-is}
 
@@ -36,8 +35,8 @@ plus s more = record { slots = s .slots; store = s .store; count = s .count; res
 abbrev behind : List ℕ → Stand → Stand
 behind t s = record { slots = s .slots; store = s .store; count = s .count; rest = s .rest; text = t ++ s .text }
 
-abbrev all-behind : List ℕ → Stopped → Stopped
-all-behind t r = stopped (r .why) (behind t (r .stand))
+abbrev all-behind : List ℕ → Reached → Reached
+all-behind t r = reached (r .why) (behind t (r .stand))
 
 -- ---- what has been written plays no part
 
@@ -99,7 +98,7 @@ whole-stays s more bus image size e = arriving (s .rest) more not-cut not-none �
 
 at-whole : (b : Bool) (n : ℕ) (space : ℕ → Bool) (s : Stand) (more : List ℕ) (bus : ℕ) (image : List ℕ) (size : ℕ) → recordAt (s .rest) ≡ whole bus image size
     → ((s′ : Stand) → everything (plus s′ more) ≡ everything (plus (listed n space s′ .stand) more))
-    → everything (plus s more) ≡ everything (plus (cond b (listed n space (listedOne s bus image size)) (stopped room s) .stand) more)
+    → everything (plus s more) ≡ everything (plus (cond b (listed n space (listedOne s bus image size)) (reached room s) .stand) more)
 unfolding Sized
 at-whole true n space s more bus image size e ih =
     once (plus s more) bus image size (whole-stays s more bus image size e)
@@ -136,10 +135,11 @@ called-is s part ok full =
       text = s .text ++ t i;
     }
 
-pub in-parts : InParts
-unfolding InParts inParts
-in-parts s [] ok full = ap (λ (l : List ℕ). everything (record { slots = s .slots; store = s .store; count = s .count; rest = l; text = s .text })) (append-nil (s .rest))
-in-parts s (part ∷ parts) ok full =
+all-parts : (s : Stand) (parts : List Part) → soundListing (listingAt s) ≡ true → fullSize (s .store) ≡ true
+    → everything (plus s (arrived parts)) ≡ everything (inParts s parts)
+unfolding inParts
+all-parts s [] ok full = ap (λ (l : List ℕ). everything (record { slots = s .slots; store = s .store; count = s .count; rest = l; text = s .text })) (append-nil (s .rest))
+all-parts s (part ∷ parts) ok full =
     let taken = s .rest ++ part .bytes in
     let first = begun (listingAt s) (s .store) taken in
     let r = listed (length taken) (hasRoom (part .output)) first .stand in
@@ -150,13 +150,13 @@ in-parts s (part ∷ parts) ok full =
     ∙ listed-behind (s .text) (length (taken ++ more)) (plus first more)
     ∙ ap (all-behind (s .text)) (go-on (length taken) (hasRoom (part .output)) first more)
     ∙ sym (listed-behind (s .text) (length (r .rest ++ more)) (plus r more))
-    ∙ in-parts (behind (s .text) r) parts (good .slots) (eq-eqb _ _ (good .store))
+    ∙ all-parts (behind (s .text) r) parts (good .slots) (eq-eqb _ _ (good .store))
     ∙ ap (λ (x : Stand). everything (inParts x parts)) (sym (called-is s part ok full))
 
 -- ---- when no whole record is left
 
-at-end : (s : Stand) → ((bus : ℕ) (image : List ℕ) (size : ℕ) → recordAt (s .rest) ≢ whole bus image size) → everything s .stand ≡ s
-at-end s h = ap (λ (x : Stopped). x .stand) (unrolled (length (s .rest)) always s (omega arith)) ∙ go (recordAt (s .rest)) refl
+at-end : (s : Stand) → NoWhole s → everything s .stand ≡ s
+at-end s h = ap (λ (x : Reached). x .stand) (unrolled (length (s .rest)) always s (omega arith)) ∙ go (recordAt (s .rest)) refl
   where
     go : (f : Found) → recordAt (s .rest) ≡ f → listedBy always s f (listed (length (s .rest) - 1) always) .stand ≡ s
     go none e = refl
@@ -164,29 +164,29 @@ at-end s h = ap (λ (x : Stopped). x .stand) (unrolled (length (s .rest)) always
     go damaged e = refl
     go (whole bus image size) e = absurd (h bus image size e)
 
+pub in-parts : InParts
+unfolding InParts
+in-parts s parts ok full =
+    let e = all-parts s parts ok full in
+    (e, λ h space. ap (λ (x : Reached). endedAt (x .stand) space) e ∙ ap (λ (x : Stand). endedAt x space) (at-end (inParts s parts) h))
+
+-- the call that ends the listing writes the last lines, where it has room
+at-last : (l : Listing) (rest output : List ℕ) (n : ℕ) → answer (ending l rest (length output)) ≡ value n
+    → take n (outputAfter (ending l rest (length output)) output) ≡ lastLines l rest
+unfolding ending guarded
+at-last l rest output n = go (leb (length (lastLines l rest)) (length output))
+  where
+    go : (b : Bool) → answer (cond b (value (lastLines l rest)) (refused 12)) ≡ value n
+        → take n (outputAfter (cond b (value (lastLines l rest)) (refused 12)) output) ≡ lastLines l rest
+    go true e =
+        let q : length (lastLines l rest) ≡ n = cc in
+        take-at (lastLines l rest) (drop (length (lastLines l rest)) output) n q
+    go false e = let y : _≡_ {A = ℕ} 0 1 = cc in absurd (omega arith)
+
 pub printed-so : Printed
-unfolding Printed InParts program
-printed-so store parts full h =
+unfolding Printed program
+printed-so store parts output n full h e =
     let s = inParts (begun newListing store []) parts in
-    ap (λ (x : Stopped). printed (x .stand)) (in-parts (begun newListing store []) parts (met .new Extended) full) ∙ ap printed (at-end s h)
-
--- ---- the answer
-
-pub one-why : OneWhy
-unfolding OneWhy OneNumber
-one-why why.Input why.Input e = refl
-one-why why.Input why.Room e = cc
-one-why why.Input why.Damaged e = cc
-one-why why.Input (why.Refused name) e = cc
-one-why why.Room why.Input e = cc
-one-why why.Room why.Room e = refl
-one-why why.Room why.Damaged e = cc
-one-why why.Room (why.Refused name) e = cc
-one-why why.Damaged why.Input e = cc
-one-why why.Damaged why.Room e = cc
-one-why why.Damaged why.Damaged e = refl
-one-why why.Damaged (why.Refused name) e = cc
-one-why (why.Refused name) why.Input e = cc
-one-why (why.Refused name) why.Room e = cc
-one-why (why.Refused name) why.Damaged e = cc
-one-why (why.Refused a) (why.Refused b) e = let n : number a ≡ number b = cc in ap why.Refused (one-number a b n)
+    ap (λ (x : Reached). printed (x .stand)) (all-parts (begun newListing store []) parts (met .new Extended) full)
+    ∙ ap printed (at-end s h)
+    ∙ ap (λ (x : List ℕ). headerLine ++ (s .text ++ x)) (sym (at-last (listingAt s) (s .rest) output n e))

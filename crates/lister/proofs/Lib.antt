@@ -1,3 +1,4 @@
+mod Answers
 mod Hearing
 mod Placing
 mod Rounds

@@ -1,4 +1,4 @@
--- A line written at a place of the output that has room for the longest.
+-- A line written at a place of the output that has room for any line.
 use Prim.Native.Nat.{ℕ, _+_, _-_, _≤_, _<_}
 use mathlib.Core.Path.{_≡_, refl, sym, ap, subst, _∙_}
 use mathlib.Core.Bool.{true}
@@ -16,8 +16,8 @@ use Rattle.format.proofs.Checks.{pass, none-left}
 use Rattle.packet.specs.Send.{answer, outputAfter}
 use Rattle.trace.specs.declared.Line.{Line}
 use Rattle.trace.specs.Lines.{lineText, lineInRange, writing}
-use Rattle.trace.specs.Claims.{Longest}
-use Rattle.trace.proofs.Longest.{longest}
+use Rattle.trace.specs.Claims.{RoomForLine}
+use Rattle.trace.proofs.LineRoom.{room-for-line}
 use Rattle.lister.specs.Parts.{Adds}
 
 -- a text written over an output from a place on
@@ -37,8 +37,8 @@ module _ (line : Line) (output : List ℕ) (at : ℕ) (ok : lineInRange line ≡
   part = take (length output - at) (drop at output)
 
   short : length (lineText line) ≤ 96
-  unfolding Longest
-  short = longest line ok
+  unfolding RoomForLine
+  short = room-for-line line ok
 
   part-is : part ≡ drop at output
   part-is = take-all (length output - at) (drop at output) (omega (arith, length-drop at output))

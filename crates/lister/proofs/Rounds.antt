@@ -30,17 +30,17 @@ use Rattle.station.proofs.Soundness.{stays, openChecks}
 use Rattle.station.proofs.Turning.{rest-is}
 use Rattle.trace.specs.declared.Entry.{Entry}
 use Rattle.trace.specs.Records as records
-use Rattle.trace.specs.Records.{Found, whole, damaged, cut, none, imageIn, recordAt}
+use Rattle.trace.specs.Records.{Found, whole, damaged, cut, none, imageIn, foundBy, recordAt}
 use Rattle.trace.specs.Lines.{lineText}
-use Rattle.trace.specs.Claims.{Sized, Longest}
+use Rattle.trace.specs.Claims.{Sized, RoomForLine}
 use Rattle.trace.proofs.Arriving.{sized}
-use Rattle.trace.proofs.Longest.{longest}
+use Rattle.trace.proofs.LineRoom.{room-for-line}
 use Rattle.lister.specs.declared.Listing.{Listing}
 use Rattle.lister.specs.declared.Listed.{Listed}
 use Rattle.lister.specs.declared.Told.{Told}
 use Rattle.lister.specs.declared.Why.{Why}
 use Rattle.lister.specs.declared.Why.the-variants as why
-use Rattle.lister.specs.Listing.{extendedStation, openedFor, heard, lineFor, next, Stand, listedOne, Reason, input, room, damage, Stopped, stopped, listedBy, listed, hasRoom, endedAs, begun, meaning, listingAfter}
+use Rattle.lister.specs.Listing.{extendedStation, openedFor, heard, lineFor, next, Stand, listedOne, Reason, input, room, damage, Reached, reached, listedBy, listed, hasRoom, handedBack, begun, meaning, listingAfter}
 use Rattle.lister.specs.Parts.{Tells, Adds}
 
 -- ---- what hearing a record keeps
@@ -83,8 +83,8 @@ taken rest bus image size n e h = omega (arith, sized rest bus image size e .0, 
 
 -- nothing is left
 none-left : (rest : List ℕ) → length rest ≡ 0 → recordAt rest ≡ none
-unfolding recordAt
-none-left rest e = rw (eq-eqb (length rest) 0 e)
+unfolding recordAt foundBy
+none-left rest e = rw (lt-leb 1 (length rest) (omega arith))
 
 -- more rounds than there are bytes left change nothing
 pub enough : (a b : ℕ) (space : ℕ → Bool) (s : Stand) → length (s .rest) ≤ a → length (s .rest) ≤ b → listed a space s ≡ listed b space s
@@ -103,7 +103,7 @@ enough (suc a) (suc b) space s ha hb = go (recordAt (s .rest)) refl (λ bus imag
     go none e ih = refl
     go cut e ih = refl
     go damaged e ih = refl
-    go (whole bus image size) e ih = ap (λ (x : Stopped). cond (space (length (s .text))) x (stopped room s)) (ih bus image size e)
+    go (whole bus image size) e ih = ap (λ (x : Reached). cond (space (length (s .text))) x (reached room s)) (ih bus image size e)
 
 -- as many rounds as there are bytes left, one by one
 pub unrolled : (n : ℕ) (space : ℕ → Bool) (s : Stand) → length (s .rest) ≤ n → listed n space s ≡ listedBy space s (recordAt (s .rest)) (listed (n - 1) space)
@@ -154,16 +154,16 @@ module _ {slots₀ : List Slot} {count₀ : ℕ} {store₀ taken output₀ : Lis
   abbrev Ends : Why → Type 0
   Ends w =
       listingAfter (record { listing = beginning slots count; why = w; used = used; written = written }) store output
-      ≡ endedAs (beginning slots₀ count₀) store₀ taken output₀ (value (listed (length taken) (hasRoom output₀) (begun (beginning slots₀ count₀) store₀ taken)))
+      ≡ handedBack (beginning slots₀ count₀) store₀ taken output₀ (value (listed (length taken) (hasRoom output₀) (begun (beginning slots₀ count₀) store₀ taken)))
 
   -- it stops
   stops : (w : Why) (why : Reason) → meaning w ≡ value why
-      → listedBy (hasRoom output₀) here (recordAt (drop used taken)) (listed (length taken - used - 1) (hasRoom output₀)) ≡ stopped why here → Ends w
+      → listedBy (hasRoom output₀) here (recordAt (drop used taken)) (listed (length taken - used - 1) (hasRoom output₀)) ≡ reached why here → Ends w
   stops w why e q =
       let used-is : length taken - length (drop used taken) ≡ used = omega (arith, left, m .in-input) in
       let output-is : take written output ++ drop (length (take written output)) output₀ ≡ output =
       rw (text-size, ← m .tail) (take-append-drop written output) in
-      sym (ap (λ (x : Stopped). endedAs (beginning slots₀ count₀) store₀ taken output₀ (value x)) (m .going ∙ next-round ∙ q)
+      sym (ap (λ (x : Reached). handedBack (beginning slots₀ count₀) store₀ taken output₀ (value x)) (m .going ∙ next-round ∙ q)
       ∙ (λ i. record { why = sym e i; listing = beginning slots count; store = store; used = used-is i; written = text-size i; output = output-is i }))
 
   pub stops-empty : none ≡ recordAt (drop used taken) → Ends why.Input
@@ -204,10 +204,10 @@ module _ {slots₀ : List Slot} {count₀ : ℕ} {store₀ taken output₀ : Lis
     pub goes-on : 96 ≤ length output - written → (ordinal : ℕ) → ordinal ≡ next count → (t : Told) (last : List ℕ)
         → Tells slots store ordinal bus image t last → (r : ℕ) (final : List ℕ) → Adds (lineText (t .line)) output written r final
         → Midst slots₀ count₀ store₀ taken output₀ (set slots (t .at) (t .slot)) ordinal last final (used + size) r
-    unfolding listedOne Longest
+    unfolding listedOne RoomForLine
     goes-on h ordinal eo t last tell r final add =
         let k = kept slots store bus image (m .ok) (m .full) in
-        let short = longest (t .line) (tell .range) in
+        let short = room-for-line (t .line) (tell .range) in
         let rest-is : drop (used + size) taken ≡ drop size (drop used taken) = sym (drop-drop size used taken) in
         let text-is : take r final ≡ take written output ++ lineFor (next count) bus (judge Extended image) (heard (extendedStation slots) store bus image .answer) =
         add .head ∙ ap (λ (x : List ℕ). take written output ++ x) (rw eo at (tell .text)) in

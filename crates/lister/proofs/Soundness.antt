@@ -17,8 +17,8 @@ use Rattle.trace.specs.Records.{Found, whole, damaged, cut, none, recordAt}
 use Rattle.trace.specs.Claims.{Sized}
 use Rattle.trace.proofs.Arriving.{sized}
 use Rattle.lister.specs.declared.Listing.{Listing}
-use Rattle.lister.specs.Listing.{newListing, Stand, listedOne, Reason, room, Stopped, stopped, listedBy, listed, hasRoom, Ended, endedAs, begun, listing}
-use Rattle.lister.specs.Claims.{soundListing, listingAt, Part, called, StaysSound}
+use Rattle.lister.specs.Listing.{newListing, Stand, listedOne, Reason, room, Reached, reached, listedBy, listed, hasRoom, AfterListing, handedBack, begun, listing}
+use Rattle.lister.specs.Claims.{soundListing, listingAt, Part, called, ListingStaysSound}
 use Rattle.lister.proofs.Rounds.{kept}
 use Rattle.lister.proofs.Calling.{at-all}
 
@@ -60,8 +60,8 @@ listed-good (suc n) space s g = go (recordAt (s .rest)) refl (λ s′ h. listed-
   where
     at-space : (b : Bool) (bus : ℕ) (image : List ℕ) (size : ℕ) → recordAt (s .rest) ≡ whole bus image size
         → ((s′ : Stand) → Good s′ → (Good (listed n space s′ .stand)) × (Taken (s′ .rest) (listed n space s′ .stand)))
-        → (Good (cond b (listed n space (listedOne s bus image size)) (stopped room s) .stand))
-        × (Taken (s .rest) (cond b (listed n space (listedOne s bus image size)) (stopped room s) .stand))
+        → (Good (cond b (listed n space (listedOne s bus image size)) (reached room s) .stand))
+        × (Taken (s .rest) (cond b (listed n space (listedOne s bus image size)) (reached room s) .stand))
     at-space true bus image size e ih =
         let i = ih (listedOne s bus image size) (one-good s bus image size g) in (i .0, one-taken s bus image size e _ (i .1))
     at-space false bus image size e ih = (g, none-taken s)
@@ -77,10 +77,10 @@ listed-good (suc n) space s g = go (recordAt (s .rest)) refl (λ s′ h. listed-
 -- ---- a call that is not refused
 
 module _ (l : Listing) (store taken output : List ℕ) (ok : soundListing l ≡ true) (full : fullSize store ≡ true) where
-  abbrev done : Stopped
+  abbrev done : Reached
   done = listed (length taken) (hasRoom output) (begun l store taken)
 
-  pub is-listed : endedAs l store taken output (value done) ≡ listing l store taken output
+  pub is-listed : handedBack l store taken output (value done) ≡ listing l store taken output
   is-listed = at-all l store taken output (ap not ok) (eqb-true _ _ full)
 
   still : (Good (done .stand)) × (Taken taken (done .stand))
@@ -94,7 +94,7 @@ module _ (l : Listing) (store taken output : List ℕ) (ok : soundListing l ≡ 
 
   never-refused : (n : ℕ) → listing l store taken output .why ≢ refused n
   never-refused n e =
-      let q : _≡_ {A = Result Reason} (value (done .why)) (refused n) = ap (λ (x : Ended). x .why) is-listed ∙ e in
+      let q : _≡_ {A = Result Reason} (value (done .why)) (refused n) = ap (λ (x : AfterListing). x .why) is-listed ∙ e in
       let z : _≡_ {A = ℕ} 0 1 = cc in
       omega arith
 
@@ -109,8 +109,8 @@ module _ (l : Listing) (store taken output : List ℕ) (ok : soundListing l ≡ 
   pub text-is : take (listing l store taken output .written) (listing l store taken output .output) ≡ done .stand .text
   text-is = rw (← is-listed) (take-append-seam (done .stand .text) (drop (length (done .stand .text)) output))
 
-pub stays-sound : StaysSound
-unfolding StaysSound
+pub stays-sound : ListingStaysSound
+unfolding ListingStaysSound
 stays-sound = (
   met .new Extended,
   λ l store taken output ok full. (

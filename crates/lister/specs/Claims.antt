@@ -1,18 +1,19 @@
--- What is proved of listings, and document 01's listing program as a whole: proofs/InParts.antt
--- and, of the first claim, proofs/Soundness.antt have the proofs.
+-- What is proved of listings, and document 01's listing program as a whole. The proofs stand in proofs/Soundness.antt (the first claim),
+-- proofs/InParts.antt and proofs/Answers.antt (the last).
 use Prim.Native.Nat.{ℕ}
 use mathlib.Core.Path.{_≡_}
 use mathlib.Core.Logic.{_≢_}
 use mathlib.Core.Bool.{Bool, true, false}
 use mathlib.Core.List.{List, [], _∷_, _++_}
 use lib.ListN.{length, take, drop}
-use Rattle.format.specs.Refusals.{refused}
+use Rattle.format.specs.Refusals.{Result, value, refused}
+use Rattle.packet.specs.Send.{answer, outputAfter}
 use Rattle.station.specs.Stations.{soundStation, fullSize}
-use Rattle.trace.specs.Records.{Found, whole, damaged, cut, none, recordAt}
+use Rattle.trace.specs.Records.{whole, recordAt}
 use Rattle.trace.specs.Lines.{headerLine}
 use Rattle.lister.specs.declared.Listing.{Listing}
 use Rattle.lister.specs.declared.Why.{Why}
-use Rattle.lister.specs.Listing.{newListing, extendedStation, Stand, Stopped, listed, begun, Ended, listing, endText, meaning}
+use Rattle.lister.specs.Listing.{newListing, extendedStation, Stand, Reached, listed, begun, AfterListing, listing, lastLines, ending, meaning}
 
 -- ---- the program
 
@@ -23,20 +24,12 @@ abbrev pub listingAt : Stand → Listing
 listingAt s = record { slots = s .slots; count = s .count }
 
 -- all records of what is left, whatever room their lines take
-abbrev pub everything : Stand → Stopped
+abbrev pub everything : Stand → Reached
 everything s = listed (length (s .rest)) (λ n. true) s
-
--- whether the listing stops at what is left when no more comes: "A record is damaged when its length, version or bus is none of these
--- or the input ends inside it."
-abbrev pub stopsAt : Found → Bool
-stopsAt none = false
-stopsAt cut = true
-stopsAt damaged = true
-stopsAt (whole bus image size) = false
 
 -- "It prints the header, one line a record, and the count", and of a damaged record "its number and "stopped""
 abbrev pub printed : Stand → List ℕ
-printed s = headerLine ++ (s .text ++ endText (stopsAt (recordAt (s .rest))) (s .count))
+printed s = headerLine ++ (s .text ++ lastLines (listingAt s) (s .rest))
 
 -- the whole output for a whole input; the store is a full-size one, whose bytes no line shows
 unfoldable pub program : (store taken : List ℕ) → List ℕ
@@ -45,8 +38,8 @@ program store taken = printed (everything (begun newListing store taken) .stand)
 -- ---- a listing stays sound
 
 -- with sound slots and a full-size store no call is refused, and what it hands back is sound and full-size again; so is a new listing
-unfoldable pub StaysSound : Type 0
-StaysSound =
+unfoldable pub ListingStaysSound : Type 0
+ListingStaysSound =
     (soundListing newListing ≡ true)
     × ((l : Listing) (store taken output : List ℕ) → soundListing l ≡ true → fullSize store ≡ true
     → let r = listing l store taken output in
@@ -67,7 +60,7 @@ arrived (part ∷ parts) = part .bytes ++ arrived parts
 unfoldable pub called : Stand → Part → Stand
 called s part =
     let taken : List ℕ = s .rest ++ part .bytes in
-    let r : Ended = listing (listingAt s) (s .store) taken (part .output) in
+    let r : AfterListing = listing (listingAt s) (s .store) taken (part .output) in
     record {
       slots = r .listing .slots;
       store = r .store;
@@ -81,20 +74,36 @@ unfoldable pub inParts : Stand → List Part → Stand
 inParts s [] = s
 inParts s (part ∷ parts) = inParts (called s part) parts
 
+-- what is left has no whole record at its head
+abbrev pub NoWhole : Stand → Type 0
+NoWhole s = (bus : ℕ) (image : List ℕ) (size : ℕ) → recordAt (s .rest) ≢ whole bus image size
+
+-- the call that ends the listing where it stands, in an output of `space` bytes
+abbrev pub endedAt : Stand → (space : ℕ) → Result (List ℕ)
+endedAt s space = ending (listingAt s) (s .rest) space
+
 -- whatever parts the input arrives in, and whatever outputs are lent: what was written, followed by what is still to be listed of what
--- is left, is what would have been written had all of it been there at once
+-- is left, is what would have been written had all of it been there at once; and where no whole record is left, the listing ends as it
+-- would have ended then
 unfoldable pub InParts : Type 0
 InParts =
     (s : Stand) (parts : List Part) → soundListing (listingAt s) ≡ true → fullSize (s .store) ≡ true
-    → everything (record { slots = s .slots; store = s .store; count = s .count; rest = s .rest ++ arrived parts; text = s .text }) ≡ everything (inParts s parts)
+    → let arrivedAtOnce : Stand =
+    record { slots = s .slots; store = s .store; count = s .count; rest = s .rest ++ arrived parts; text = s .text } in
+    let last : Stand = inParts s parts in
+    (everything arrivedAtOnce ≡ everything last)
+    × (NoWhole last → (space : ℕ) → endedAt (everything arrivedAtOnce .stand) space ≡ endedAt last space)
 
--- so when no whole record is left, the program's output is what was written, between the header and the last lines
+-- so when no whole record is left, the program's output is the header, what the calls wrote, and what the call that ends the listing
+-- writes to an output that has room for it
 unfoldable pub Printed : Type 0
 Printed =
-    (store : List ℕ) (parts : List Part) → fullSize store ≡ true
-    → let s = inParts (begun newListing store []) parts in
-    ((bus : ℕ) (image : List ℕ) (size : ℕ) → recordAt (s .rest) ≢ whole bus image size)
-    → program store (arrived parts) ≡ printed s
+    (store : List ℕ) (parts : List Part) (output : List ℕ) (n : ℕ) → fullSize store ≡ true
+    → let last : Stand = inParts (begun newListing store []) parts in
+    let ends : Result (List ℕ) = endedAt last (length output) in
+    NoWhole last
+    → answer ends ≡ value n
+    → program store (arrived parts) ≡ headerLine ++ (last .text ++ take n (outputAfter ends output))
 
 -- ---- the answer
 

@@ -82,27 +82,27 @@ pub data Reason : Type 0 where
   room : Reason
   damage : Reason
 
-pub record Stopped : Type 0 where
+pub record Reached : Type 0 where
   pub why : Reason
   pub stand : Stand
 
-abbrev pub stopped : Reason → Stand → Stopped
-stopped why s = record { why = why; stand = s }
+abbrev pub reached : Reason → Stand → Reached
+reached why s = record { why = why; stand = s }
 
 -- a whole record is listed, and then what follows it, where there is room for a line after so many bytes of text
-abbrev pub listedBy : (space : ℕ → Bool) → Stand → Found → (Stand → Stopped) → Stopped
-listedBy space s none following = stopped input s
-listedBy space s cut following = stopped input s
-listedBy space s damaged following = stopped damage s
+abbrev pub listedBy : (space : ℕ → Bool) → Stand → Found → (Stand → Reached) → Reached
+listedBy space s none following = reached input s
+listedBy space s cut following = reached input s
+listedBy space s damaged following = reached damage s
 listedBy space s (whole bus image size) following =
-    cond (space (length (s .text))) (following (listedOne s bus image size)) (stopped room s)
+    cond (space (length (s .text))) (following (listedOne s bus image size)) (reached room s)
 
 -- one after the other. Each takes some of the input, so that as many rounds as it has bytes are enough
-unfoldable pub listed : (rounds : ℕ) (space : ℕ → Bool) → Stand → Stopped
-listed zero space s = stopped input s
+unfoldable pub listed : (rounds : ℕ) (space : ℕ → Bool) → Stand → Reached
+listed zero space s = reached input s
 listed (suc rounds) space s = listedBy space s (recordAt (s .rest)) (listed rounds space)
 
--- the longest line has 96 bytes at most
+-- there is room for any line: `LINE_ROOM` of trace
 abbrev pub hasRoom : (output : List ℕ) → ℕ → Bool
 hasRoom output n = leb (n + 96) (length output)
 
@@ -110,7 +110,7 @@ hasRoom output n = leb (n + 96) (length output)
 
 -- why it went no further or a refusal, the listing handed back, the store, how much of the input was taken, how much of the output was
 -- written, the output
-pub record Ended : Type 0 where
+pub record AfterListing : Type 0 where
   pub why : Result Reason
   pub listing : Listing
   pub store : List ℕ
@@ -118,10 +118,10 @@ pub record Ended : Type 0 where
   pub written : ℕ
   pub output : List ℕ
 
-abbrev pub endedAs : Listing → (store taken output : List ℕ) → Result Stopped → Ended
-endedAs l store taken output (refused n) =
+abbrev pub handedBack : Listing → (store taken output : List ℕ) → Result Reached → AfterListing
+handedBack l store taken output (refused n) =
     record { why = refused n; listing = l; store = store; used = 0; written = 0; output = output }
-endedAs l store taken output (value r) =
+handedBack l store taken output (value r) =
     let s : Stand = r .stand in
     record {
       why = value (r .why);
@@ -136,9 +136,9 @@ abbrev pub begun : Listing → (store taken : List ℕ) → Stand
 begun l store taken = record { slots = l .slots; store = store; count = l .count; rest = taken; text = [] }
 
 -- STATE: the slots are not sound. STORE: store not 32,768 bytes
-unfoldable pub listing : Listing → (store taken output : List ℕ) → Ended
+unfoldable pub listing : Listing → (store taken output : List ℕ) → AfterListing
 listing l store taken output =
-    endedAs l store taken output
+    handedBack l store taken output
     (guarded (check State (soundStation (extendedStation (l .slots))) ∷ check Store (fullSize store) ∷ [])
     (listed (length taken) (hasRoom output) (begun l store taken)))
 
@@ -149,7 +149,7 @@ meaning why.Room = value room
 meaning why.Damaged = value damage
 meaning (why.Refused name) = refused (number name)
 
-abbrev pub listingAfter : Listed → (store output : List ℕ) → Ended
+abbrev pub listingAfter : Listed → (store output : List ℕ) → AfterListing
 listingAfter r store output =
     record {
       why = meaning (r .why);
@@ -162,12 +162,23 @@ listingAfter r store output =
 
 -- ---- the end
 
+-- whether the listing stops at what is left of the input when no more comes: "A record is damaged when its length, version or bus is none
+-- of these or the input ends inside it." A whole record that is left is no damaged one
+abbrev pub stopsAt : Found → Bool
+stopsAt none = false
+stopsAt cut = true
+stopsAt damaged = true
+stopsAt (whole bus image size) = false
+
 -- what follows the lines of the records: of a damaged record "its number and "stopped"", which "isn't counted"; and the count
 abbrev pub endText : (stops : Bool) (count : ℕ) → List ℕ
 endText true count = stoppedLine (next count) ++ countLine count
 endText false count = countLine count
 
+-- the text at the end, with what is left of the input
+abbrev pub lastLines : Listing → (rest : List ℕ) → List ℕ
+lastLines l rest = endText (stopsAt (recordAt rest)) (l .count)
+
 -- for an output of `space` bytes. ROOM: output shorter than that
-unfoldable pub ending : Listing → (stops : Bool) (space : ℕ) → Result (List ℕ)
-ending l stops space =
-    guarded (check Room (leb (length (endText stops (l .count))) space) ∷ []) (endText stops (l .count))
+unfoldable pub ending : Listing → (rest : List ℕ) (space : ℕ) → Result (List ℕ)
+ending l rest space = guarded (check Room (leb (length (lastLines l rest)) space) ∷ []) (lastLines l rest)

@@ -17,7 +17,7 @@ use stream::Answer;
 use stream::Area;
 use stream::Progress;
 use trace::Entry;
-use trace::LONGEST_LINE;
+use trace::LINE_ROOM;
 use trace::Line;
 ghost use mathlib.Core.Path.{_≡_};
 ghost use mathlib.Core.Bool.{true};
@@ -34,9 +34,12 @@ ghost use Rattle.slot.specs.Slots.{openSlot};
 ghost use Rattle.slot.specs.Sound.{sound};
 ghost use Rattle.station.specs.Receive.{keyOf, afterTurn};
 ghost use Rattle.station.specs.Parts.{frameOf, Steps};
-ghost use Rattle.lister.specs.Listing.{newListing, extendedStation, heard, listed, hasRoom, begun, endedAs, listing, listingAfter, endText, ending};
+ghost use Rattle.lister.specs.Listing.{newListing, extendedStation, heard, listed, hasRoom, begun, handedBack, listing, listingAfter, stopsAt, endText, ending};
+ghost use Rattle.trace.specs.Records.{recordAt};
 ghost use Rattle.trace.specs.Lines.{lineText, lineInRange};
 ghost use Rattle.lister.specs.Parts.{Heads, Tells, Adds};
+ghost use Rattle.lister.specs.Claims.{ListingStaysSound, InParts, Printed, OneWhy};
+ghost use Rattle.lister.specs.Examples.{ListingExamples, ListingBounds};
 
 // Where a listing stands between two parts of its trace: the slots, and how many records it has
 // listed.
@@ -194,6 +197,19 @@ fn put_line(line: Line, output: &mut [u8], at: usize) -> usize
     }
 }
 
+// Whether the listing stops at what is left of the input: a damaged record, or one that the input
+// ends inside.
+fn stops_at(rest: &[u8]) -> bool
+    ensures { λ r. ⌜ r ≡ stopsAt (recordAt (now (rest .entry))) ⌝ }
+{
+    match trace::read_record(rest) {
+        Entry::Record { bus: _, size: _ } => false,
+        Entry::Damaged => true,
+        Entry::Cut => true,
+        Entry::End => false,
+    }
+}
+
 // Puts what follows the lines of the records at the text's beginning, and answers where it ends.
 fn put_end(stops: bool, count: u64, text: &mut [u8; 192]) -> usize
     requires { ⌜ length (now text) ≡ 192 ⌝ }
@@ -222,7 +238,7 @@ fn ended(slots: [Slot; 16], count: u64, why: Why, used: usize, written: usize) -
 // Lists what stands in the input, in sound slots and with a full-size store.
 fn list_all(listing: Listing, store: &mut [u8], input: &[u8], output: &mut [u8]) -> Listed
     requires { ⌜ (sound Extended (listing .slots) ≡ true) × (length (now store) ≡ 32768) ⌝ }
-    ensures { λ r. ⌜ listingAfter r (now (store .exit)) (now (output .exit)) ≡ endedAs listing (now (store .entry)) (now (input .entry)) (now (output .entry)) (value (listed (length (now (input .entry))) (hasRoom (now (output .entry))) (begun listing (now (store .entry)) (now (input .entry))))) ⌝ }
+    ensures { λ r. ⌜ listingAfter r (now (store .exit)) (now (output .exit)) ≡ handedBack listing (now (store .entry)) (now (input .entry)) (now (output .entry)) (value (listed (length (now (input .entry))) (hasRoom (now (output .entry))) (begun listing (now (store .entry)) (now (input .entry))))) ⌝ }
 {
     let mut slots = listing.slots;
     let mut count = listing.count;
@@ -234,7 +250,7 @@ fn list_all(listing: Listing, store: &mut [u8], input: &[u8], output: &mut [u8])
             Entry::Cut => return ended(slots, count, Why::Input, used, written),
             Entry::Damaged => return ended(slots, count, Why::Damaged, used, written),
             Entry::Record { bus, size } => {
-                if output.len() - written < LONGEST_LINE {
+                if output.len() - written < LINE_ROOM {
                     return ended(slots, count, Why::Room, used, written);
                 }
                 count = std::num::wrapping_add_u64(count, 1);
@@ -279,14 +295,16 @@ impl Listing {
         list_all(self, store, input, output)
     }
 
-    // Writes what follows the lines of the records over the head of the output, and answers its
-    // length: the line of a damaged record, if the listing stops at one, and the count. Refuses
-    // with ROOM, and then writes nothing.
-    pub fn end(self, stops: bool, output: &mut [u8]) -> Outcome
-        ensures { λ r. ⌜ outcome·meaning r ≡ answer (ending self stops (length (now (output .entry)))) ⌝ }
-        ensures { λ _. ⌜ now (output .exit) ≡ over·after (ending self stops (length (now (output .entry)))) (now (output .entry)) ⌝ }
+    // Ends the listing where no more comes than what is left of the input: writes what follows the
+    // lines of the records over the head of the output, and answers its length. That is the line of
+    // a damaged record, if what is left is one or its beginning, and the count. Refuses with ROOM,
+    // and then writes nothing.
+    pub fn end(self, rest: &[u8], output: &mut [u8]) -> Outcome
+        ensures { λ r. ⌜ outcome·meaning r ≡ answer (ending self (now (rest .entry)) (length (now (output .entry)))) ⌝ }
+        ensures { λ _. ⌜ now (output .exit) ≡ over·after (ending self (now (rest .entry)) (length (now (output .entry)))) (now (output .entry)) ⌝ }
     {
         let mut text = [0u8; 192];
+        let stops = stops_at(rest);
         let n = put_end(stops, self.count, &mut text);
         if copying::copy_in(output, 0, &text[..n]) {
             return Outcome::Value(n);
@@ -294,3 +312,13 @@ impl Listing {
         Outcome::Refused(Refusal::Room)
     }
 }
+
+// The claims of this crate. It does nothing: its contract ties each claim to its proof.
+pub fn promised()
+    ensures listing_stays_sound { λ _. ⌜ ListingStaysSound ⌝ }
+    ensures in_parts { λ _. ⌜ InParts ⌝ }
+    ensures printed { λ _. ⌜ Printed ⌝ }
+    ensures one_why { λ _. ⌜ OneWhy ⌝ }
+    ensures listing_examples { λ _. ⌜ ListingExamples ⌝ }
+    ensures listing_bounds { λ _. ⌜ ListingBounds ⌝ }
+{}

@@ -33,23 +33,23 @@ fn ended(listing: Listing) -> Session
     }
 }
 
-// The last lines.
-fn end(listing: Listing, stops: bool, output: &mut [u8]) -> Session
+// The last lines, where no more comes than what is left of the input.
+fn end(listing: Listing, rest: &[u8], output: &mut [u8]) -> Session
     ensures { λ r. ⌜ r .held ≡ 0 ⌝ }
 {
-    let answer = listing.end(stops, output);
+    let answer = listing.end(rest, output);
     write(answer, output);
     ended(listing)
 }
 
-// Reads on. Where no more comes, what is held is the beginning of a damaged record, or nothing.
+// Reads on. Where no more comes, the listing ends with what is held.
 fn more(listing: Listing, input: &mut [u8], held: usize, output: &mut [u8]) -> Session
     requires { ⌜ held ≤ length (now input) ⌝ }
     ensures { λ r. ⌜ r .held ≤ length (now (input .entry)) ⌝ }
 {
     let all = pipes::read_on(input, held);
     if all == held {
-        return end(listing, held > 0, output);
+        return end(listing, &input[0..held], output);
     }
     Session {
         listing: listing,
@@ -81,8 +81,8 @@ fn turn(session: Session, store: &mut [u8], input: &mut [u8], output: &mut [u8])
             held: left,
             going: true,
         },
-        Why::Damaged => end(listing, true, output),
-        // Never: the listing stays sound (claim StaysSound of lister), and the store has its size.
+        Why::Damaged => end(listing, &input[0..left], output),
+        // Never: the listing stays sound (claim ListingStaysSound of lister), and the store has its size.
         Why::Refused(_) => ended(listing),
     }
 }

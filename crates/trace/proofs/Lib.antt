@@ -1,5 +1,7 @@
 mod Reading
 mod Texts
 mod Writing
-pub mod Longest
+mod Decimals
+mod Bounds
+pub mod LineRoom
 pub mod Arriving

@@ -13,7 +13,7 @@ use lib.Dec.{ltb}
 use borrow.Author.Tests.{lt-ltb, le-ltb, ltb-true, ltb-false}
 use Rattle.copying.specs.Copy.{written}
 use Rattle.copying.proofs.Copying.{written-length}
-use Rattle.trace.specs.Lines.{digits, decimal, field, fields, busName, ascii, answerText}
+use Rattle.trace.specs.Lines.{digits, decimal, fieldText, fieldsText, busName, ascii, answerText}
 use Rattle.format.specs.Refusals.{Result, value, refused}
 use Rattle.stream.specs.Answers.{Reply, packet, kept, filtered}
 use Rattle.trace.specs.Parts.{Put}
@@ -82,18 +82,18 @@ decimal-more n h w = rw (le-ltb n 10 h) (ap (λ (l : List ℕ). l ++ ((48 + n % 
 pub decimal-longer : (n : ℕ) → 10 ≤ n → n < 18446744073709551616 → length (decimal n) ≡ length (decimal (n / 10)) + 1
 decimal-longer n h w = ap length (decimal-more n h w) ∙ length-append (decimal (n / 10)) ((48 + n % 10) ∷ [])
 
-pub field-length : (n : ℕ) → length (field n) ≡ length (decimal n) + 1
-unfolding field
+pub field-length : (n : ℕ) → length (fieldText n) ≡ length (decimal n) + 1
+unfolding fieldText
 field-length n = omega arith
 
-pub field-short : (n : ℕ) → length (field n) ≤ 21
+pub field-short : (n : ℕ) → length (fieldText n) ≤ 21
 field-short n = omega (arith, field-length n, decimal-length n)
 
 -- a byte has three digits at most
-pub field-byte : (n : ℕ) → n < 256 → length (field n) ≤ 4
+pub field-byte : (n : ℕ) → n < 256 → length (fieldText n) ≤ 4
 field-byte n h = go (ltb n 10) (ltb n 100) refl refl
   where
-    go : (a b : Bool) → ltb n 10 ≡ a → ltb n 100 ≡ b → length (field n) ≤ 4
+    go : (a b : Bool) → ltb n 10 ≡ a → ltb n 100 ≡ b → length (fieldText n) ≤ 4
     go true b e f = omega (arith, field-length n, ap length (decimal-small n (ltb-true n 10 e)))
     go false true e f =
         let m : n / 10 < 10 = omega (arith, ltb-true n 100 f) in
@@ -107,15 +107,15 @@ pub put-none : (text : List ℕ) (at : ℕ) → Put text at [] at text
 put-none text at = record { place = omega arith; head = sym (append-nil (take at text)); size = refl }
 
 -- a blank, then the number
-pub put-blank : (text : List ℕ) (at n r : ℕ) (last : List ℕ) → at < length text → Put (set text at 32) (at + 1) (decimal n) r last → Put text at (field n) r last
-unfolding field
+pub put-blank : (text : List ℕ) (at n r : ℕ) (last : List ℕ) → at < length text → Put (set text at 32) (at + 1) (decimal n) r last → Put text at (fieldText n) r last
+unfolding fieldText
 put-blank text at n r last h p = put-then (put-one text at 32 h) p
 
 -- one field more
-pub fields-more : (l : List ℕ) (n : ℕ) → fields (l ++ (n ∷ [])) ≡ fields l ++ field n
-unfolding fields
-fields-more [] n = append-nil (field n)
-fields-more (x ∷ l) n = ap (λ (r : List ℕ). field x ++ r) (fields-more l n) ∙ sym (append-assoc (field x) (fields l) (field n))
+pub fields-more : (l : List ℕ) (n : ℕ) → fieldsText (l ++ (n ∷ [])) ≡ fieldsText l ++ fieldText n
+unfolding fieldsText
+fields-more [] n = append-nil (fieldText n)
+fields-more (x ∷ l) n = ap (λ (r : List ℕ). fieldText x ++ r) (fields-more l n) ∙ sym (append-assoc (fieldText x) (fieldsText l) (fieldText n))
 
 pub bus-b : (bus : ℕ) → bus ≢ 0 → busName bus ≡ ascii " B"
 bus-b zero h = absurd (h refl)

@@ -34,12 +34,12 @@ unfoldable pub decimal : ℕ → List ℕ
 decimal n = digits 20 n
 
 -- a number after a blank; several, one after the other
-unfoldable pub field : ℕ → List ℕ
-field n = 32 ∷ decimal n
+unfoldable pub fieldText : ℕ → List ℕ
+fieldText n = 32 ∷ decimal n
 
-unfoldable pub fields : List ℕ → List ℕ
-fields [] = []
-fields (n ∷ ns) = field n ++ fields ns
+unfoldable pub fieldsText : List ℕ → List ℕ
+fieldsText [] = []
+fieldsText (n ∷ ns) = fieldText n ++ fieldsText ns
 
 -- 0 is A, 1 is B
 abbrev pub busName : ℕ → List ℕ
@@ -51,13 +51,13 @@ brokeOr true = ascii " broke"
 brokeOr false = []
 
 abbrev pub answerText : Result Reply → List ℕ
-answerText (value (packet n broke)) = ascii " packet" ++ (field n ++ brokeOr broke)
+answerText (value (packet n broke)) = ascii " packet" ++ (fieldText n ++ brokeOr broke)
 answerText (value (kept broke)) = ascii " kept" ++ brokeOr broke
 answerText (value filtered) = ascii " filtered"
-answerText (refused n) = ascii " refused" ++ field n
+answerText (refused n) = ascii " refused" ++ fieldText n
 
-abbrev pub ended : List ℕ → List ℕ
-ended line = line ++ ascii "\n"
+abbrev pub withNewline : List ℕ → List ℕ
+withNewline line = line ++ ascii "\n"
 
 unfoldable pub headerLine : List ℕ
 headerLine = ascii "record bus priority source group dest flag number function count answer\n"
@@ -71,17 +71,17 @@ columns (Standard priority address side) flag n count = []
 -- record r: a frame with its answer; an image refused by 1 to 5
 unfoldable pub frameLine : (r bus : ℕ) → Fields → Flag → (n count : ℕ) → Result Reply → List ℕ
 frameLine r bus id flag n count answer =
-    ended (decimal r ++ (busName bus ++ (fields (columns id (flagBits flag) n count) ++ answerText answer)))
+    withNewline (decimal r ++ (busName bus ++ (fieldsText (columns id (flagBits flag) n count) ++ answerText answer)))
 
 unfoldable pub refusedLine : (r bus refusal : ℕ) → List ℕ
-refusedLine r bus refusal = ended (decimal r ++ (busName bus ++ answerText (refused refusal)))
+refusedLine r bus refusal = withNewline (decimal r ++ (busName bus ++ answerText (refused refusal)))
 
 -- a damaged record; how many records there were
 unfoldable pub stoppedLine : ℕ → List ℕ
-stoppedLine r = ended (decimal r ++ ascii " stopped")
+stoppedLine r = withNewline (decimal r ++ ascii " stopped")
 
 unfoldable pub countLine : ℕ → List ℕ
-countLine n = ended (ascii "records" ++ field n)
+countLine n = withNewline (ascii "records" ++ fieldText n)
 
 -- ---- the call that writes a line
 

@@ -1,11 +1,10 @@
 -- Document 01, the listing program: "A record is a two-byte big-endian length of what follows (2 to 15), version byte 1, bus byte 0
 -- or 1, image." "A record is damaged when its length, version or bus is none of these or the input ends inside it."
 use Prim.Native.Nat.{ℕ, _+_, _-_, _*_}
-use mathlib.Core.Bool.{cond}
+use mathlib.Core.Bool.{Bool, cond}
 use mathlib.Core.List.{List, [], _∷_}
-use lib.Dec.{leb, ltb, eqb}
+use lib.Dec.{leb, eqb}
 use lib.ListN.{length, getD, take, drop}
-use Rattle.format.specs.Tests.{allTrue}
 use Rattle.trace.specs.declared.Entry.{Entry}
 use Rattle.trace.specs.declared.Entry.the-variants as entry
 
@@ -21,16 +20,29 @@ pub data Found : Type 0 where
 abbrev pub imageIn : (size : ℕ) → List ℕ → List ℕ
 imageIn size input = take (size - 4) (drop 4 input)
 
+-- what is found unless a test holds
+pub data Test : Type 0 where
+  unless : (test : Bool) (found : Found) → Test
+
+-- the tests in their order: the first that fails tells what is found; if all hold, it is the last
+unfoldable pub foundBy : List Test → Found → Found
+foundBy [] found = found
+foundBy (unless test other ∷ tests) found = cond test (foundBy tests found) other
+
 unfoldable pub recordAt : List ℕ → Found
 recordAt input =
     let byte : ℕ → ℕ = λ i. getD input i 0 in
     let follows : ℕ = byte 0 * 256 + byte 1 in
-    cond (eqb (length input) 0) none
-    (cond (ltb (length input) 2) cut
-    (cond (allTrue (leb 2 follows ∷ leb follows 15 ∷ []))
-    (cond (ltb (length input) (2 + follows)) cut
-    (cond (allTrue (eqb (byte 2) 1 ∷ leb (byte 3) 1 ∷ [])) (whole (byte 3) (imageIn (2 + follows) input) (2 + follows)) damaged))
-    damaged))
+    foundBy
+    (unless (leb 1 (length input)) none
+    ∷ unless (leb 2 (length input)) cut
+    ∷ unless (leb 2 follows) damaged
+    ∷ unless (leb follows 15) damaged
+    ∷ unless (leb (2 + follows) (length input)) cut
+    ∷ unless (eqb (byte 2) 1) damaged
+    ∷ unless (leb (byte 3) 1) damaged
+    ∷ [])
+    (whole (byte 3) (imageIn (2 + follows) input) (2 + follows))
 
 -- what the code's answer says of the bytes
 abbrev pub meaning : Entry → List ℕ → Found

@@ -14,9 +14,10 @@ ghost use Rattle.format.specs.Refusals.{meaning as outcome·meaning};
 ghost use Rattle.stream.specs.Answers.{meaning as reply·meaning};
 ghost use Rattle.packet.specs.Send.{answer, outputAfter};
 ghost use Rattle.trace.specs.Records.{recordAt, meaning};
-ghost use Rattle.trace.specs.Lines.{ascii, decimal, field, busName, brokeOr, answerText, columns, frameLine, refusedLine, stoppedLine, countLine, lineText, extendedInRange, lineInRange, writing};
-ghost use Rattle.trace.specs.Lines.{fields as fields·text};
+ghost use Rattle.trace.specs.Lines.{ascii, decimal, fieldText, fieldsText, busName, brokeOr, answerText, columns, frameLine, refusedLine, stoppedLine, countLine, lineText, extendedInRange, lineInRange, writing};
 ghost use Rattle.trace.specs.Parts.{Put};
+ghost use Rattle.trace.specs.Claims.{RoomForLine, Decimal, Arriving, Sized, OneEntry};
+ghost use Rattle.trace.specs.Bounds.{RecordBounds, LineTexts, LinesRefused};
 
 // What stands at the head of a trace's bytes.
 pub enum Entry {
@@ -93,7 +94,7 @@ pub enum Line {
 }
 
 // An output of so many bytes has room for every line.
-pub const LONGEST_LINE: usize = 96;
+pub const LINE_ROOM: usize = 96;
 
 // The functions below put bytes into a text of which the first `at` bytes count, and answer where
 // these then end.
@@ -122,8 +123,8 @@ fn put_decimal(text: &mut [u8], at: usize, n: u64) -> usize
 
 // A number after a blank.
 fn put_field(text: &mut [u8], at: usize, n: u64) -> usize
-    requires { ⌜ at + length (field n) ≤ length (now text) ⌝ }
-    ensures { λ r. ⌜ Put (now (text .entry)) at (field n) r (now (text .exit)) ⌝ }
+    requires { ⌜ at + length (fieldText n) ≤ length (now text) ⌝ }
+    ensures { λ r. ⌜ Put (now (text .entry)) at (fieldText n) r (now (text .exit)) ⌝ }
 {
     text[at] = 32;
     put_decimal(text, at + 1, n)
@@ -131,7 +132,7 @@ fn put_field(text: &mut [u8], at: usize, n: u64) -> usize
 
 fn put_fields(text: &mut [u8], at: usize, values: &[u8]) -> usize
     requires { ⌜ at + 4 * length (now values) ≤ length (now text) ⌝ }
-    ensures { λ r. ⌜ Put (now (text .entry)) at (fields·text (now (values .entry))) r (now (text .exit)) ⌝ }
+    ensures { λ r. ⌜ Put (now (text .entry)) at (fieldsText (now (values .entry))) r (now (text .exit)) ⌝ }
     ensures { λ r. ⌜ r ≤ at + 4 * length (now (values .entry)) ⌝ }
 {
     let mut to = at;
@@ -200,7 +201,7 @@ fn put_columns(
     count: u8,
 ) -> usize
     requires { ⌜ at + 32 ≤ length (now text) ⌝ }
-    ensures { λ r. ⌜ Put (now (text .entry)) at (fields·text (columns fields (flagBits flag) number count)) r (now (text .exit)) ⌝ }
+    ensures { λ r. ⌜ Put (now (text .entry)) at (fieldsText (columns fields (flagBits flag) number count)) r (now (text .exit)) ⌝ }
     ensures { λ r. ⌜ r ≤ at + 32 ⌝ }
 {
     match fields {
@@ -378,3 +379,15 @@ pub fn write_line(line: Line, output: &mut [u8]) -> Outcome
     copying::copy_in(output, 0, &text[..n]);
     Outcome::Value(n)
 }
+
+// The claims of this crate. It does nothing: its contract ties each claim to its proof.
+pub fn promised()
+    ensures room_for_line { λ _. ⌜ RoomForLine ⌝ }
+    ensures decimal { λ _. ⌜ Decimal ⌝ }
+    ensures arriving { λ _. ⌜ Arriving ⌝ }
+    ensures sized { λ _. ⌜ Sized ⌝ }
+    ensures one_entry { λ _. ⌜ OneEntry ⌝ }
+    ensures record_bounds { λ _. ⌜ RecordBounds ⌝ }
+    ensures line_texts { λ _. ⌜ LineTexts ⌝ }
+    ensures lines_refused { λ _. ⌜ LinesRefused ⌝ }
+{}

@@ -5,8 +5,8 @@ use mathlib.Core.List.{_++_}
 use native.Mathlib.Omega.{arith}
 use Rattle.trace.specs.declared.Line.the-variants as line
 use Rattle.trace.specs.Lines.{lineText, lineInRange, stoppedLine, countLine}
-use Rattle.trace.specs.Claims.{Longest}
-use Rattle.trace.proofs.Longest.{longest}
+use Rattle.trace.specs.Claims.{RoomForLine}
+use Rattle.trace.proofs.LineRoom.{room-for-line}
 use Rattle.lister.proofs.Placing.{adds-then, adds-as}
 use Rattle.lister.proofs.Calling.{not-true, not-false}
 use borrow.Author.Needs.{needs}
@@ -29,9 +29,9 @@ unfolding lineInRange
 put-line-requires-2 c κs = (refl, omega (arith, c .before .before .before .pre))
 
 put-line-requires-3 : tie.Need-put-line-requires-3
-unfolding lineInRange Longest
+unfolding lineInRange RoomForLine
 put-line-requires-3 c κs =
-    let p = c .before .put-line2 .ensures in (refl, omega (arith, p .place, p .size, c .before .before .before .before .before .pre, longest (line.Stopped (c .before .before .before .wrapping-add-u64 .result)) refl))
+    let p = c .before .put-line2 .ensures in (refl, omega (arith, p .place, p .size, c .before .before .before .before .before .pre, room-for-line (line.Stopped (c .before .before .before .wrapping-add-u64 .result)) refl))
 
 returns-2 : tie.Need-returns-2
 unfolding lineText

@@ -6,6 +6,15 @@ use Rattle.listing.proofs.more.Tie as tie
 read-on-requires : tie.Need-read-on-requires
 read-on-requires c κs = search needs
 
+sub-end : tie.Need-sub-end
+sub-end c = search needs
+
+part-end-start : tie.Need-part-end-start
+part-end-start c = search needs
+
+part-end-end : tie.Need-part-end-end
+part-end-end c = search needs
+
 end-requires : tie.Need-end-requires
 end-requires c κs = search needs
 
@@ -29,6 +38,9 @@ more-spec =
     tie.close
     (tie.spec
     read-on-requires
+    sub-end
+    part-end-start
+    part-end-end
     end-requires
     same-length
     same-length-2

@@ -1,5 +1,5 @@
 -- `trace::put_columns` meets its contract: the eight values in the header's order.
-use Rattle.trace.specs.Lines.{fields}
+use Rattle.trace.specs.Lines.{fieldsText}
 use Rattle.trace.proofs.Texts.{put-none}
 use borrow.Author.Needs.{needs}
 use Rattle.trace.proofs.put_columns.Statement.{statement}
@@ -28,7 +28,7 @@ returns c =
     (rw (c .before .before .before .before .before .before .before .fields .given .1, ← c .before .before .before .before .before .bits .ensures) (c .before .before .put-fields .ensures .0), c .before .before .put-fields .ensures .1)
 
 returns-2 : tie.Need-returns-2
-unfolding fields
+unfolding fieldsText
 returns-2 c =
     let g = c .before .before .before in (rw (c .enum-told .given .1) (put-none (g .args .text .now) (g .args .at)), search needs)
 

@@ -7,7 +7,7 @@ use native.Mathlib.Omega.{arith}
 use borrow.Author.Needs.{needs}
 use lib.ListN.{length, take, getD}
 use lib.Seq.{take-suc, take-all}
-use Rattle.trace.specs.Lines.{field, fields}
+use Rattle.trace.specs.Lines.{fieldText, fieldsText}
 use Rattle.trace.specs.Parts.{Put}
 use Rattle.trace.proofs.Texts.{field-byte, fields-more, put-none, put-then}
 use Rattle.trace.proofs.put_fields.Statement.{statement}
@@ -15,13 +15,13 @@ use Rattle.trace.proofs.put_fields.Tie as tie
 
 abbrev Inv-loop : tie.InvT-loop
 Inv-loop text₀ at values to₀ i₀ text to i =
-    (i ≤ length values) × (to ≤ at + 4 * i) × Put text₀ at (fields (take i values)) to text
+    (i ≤ length values) × (to ≤ at + 4 * i) × Put text₀ at (fieldsText (take i values)) to text
 
 abbrev μ-loop : tie.MeasureT-loop
 μ-loop text₀ at values to₀ i₀ text to i = length values - i
 
 loop-holds : tie.Need-loop-holds Inv-loop μ-loop
-unfolding fields
+unfolding fieldsText
 loop-holds c =
     let a = c .before .before .args in (search needs, search needs, put-none (a .text .now) (a .at))
 
@@ -47,7 +47,7 @@ loop-again c =
     let l = c .before .before .before .before .before .before in let g = l .before .before .before in let a = g .args in let p = c .before .before .put-field in
     let h : l .loop .i < length (a .values .now) = omega arith in
     let x = getD (a .values .now) (l .loop .i) 0 in
-    let e : fields (take (l .loop .i + 1) (a .values .now)) ≡ fields (take (l .loop .i) (a .values .now)) ++ field x =
+    let e : fieldsText (take (l .loop .i + 1) (a .values .now)) ≡ fieldsText (take (l .loop .i) (a .values .now)) ++ fieldText x =
     rw (add-one, take-suc (a .values .now) (l .loop .i) 0 h) (fields-more (take (l .loop .i) (a .values .now)) x) in (
       search needs,
       omega (arith, l .loop .inv .1, p .ensures .place, field-byte x (omega (arith, c .before .before .before .shared-slice-known2 .given (l .loop .i)))),

@@ -23,7 +23,7 @@ big-endian-requires c κs = search needs
 returns-3 : tie.Need-returns-3
 returns-3 c =
     let e = c .before in let t = e .before .before .before in
-    at-length (t .before .before .before .args .input .now) (e .big-endian .result) (e .big-endian .ensures .0) (t .before .if1 .left) (t .if2 .left) (c .if3 .taken)
+    at-length (t .before .before .before .args .input .now) (e .big-endian .result) (e .big-endian .ensures .0) (t .if2 .left) (c .if3 .taken)
 
 add-size : tie.Need-add-size
 add-size c = search needs
@@ -31,7 +31,7 @@ add-size c = search needs
 returns-4 : tie.Need-returns-4
 returns-4 c =
     let e = c .before .before in let t = e .before .before .before in
-    at-cut (t .before .before .before .args .input .now) (e .big-endian .result) (e .big-endian .ensures .0) (t .before .if1 .left) (t .if2 .left) (c .before .if3 .left) (c .if4 .taken)
+    at-cut (t .before .before .before .args .input .now) (e .big-endian .result) (e .big-endian .ensures .0) (t .if2 .left) (c .before .if3 .left) (c .if4 .taken)
 
 shared-slice-read-bus : tie.Need-shared-slice-read-bus
 shared-slice-read-bus c = omega (arith, at-least (c .before .before .before .big-endian .result) (c .before .before .if3 .left))
@@ -43,12 +43,12 @@ shared-slice-read-if5 c =
 returns-5 : tie.Need-returns-5
 returns-5 c =
     let e = c .before .before .before .before .before in let t = e .before .before .before in
-    at-damaged (t .before .before .before .args .input .now) (e .big-endian .result) (e .big-endian .ensures .0) (t .before .if1 .left) (t .if2 .left) (c .before .before .before .before .if3 .left) (c .before .before .before .if4 .left) (c .if5 .taken)
+    at-damaged (t .before .before .before .args .input .now) (e .big-endian .result) (e .big-endian .ensures .0) (t .if2 .left) (c .before .before .before .before .if3 .left) (c .before .before .before .if4 .left) (c .if5 .taken)
 
 returns-6 : tie.Need-returns-6
 returns-6 c =
     let e = c .before .before .before .before .before in let t = e .before .before .before in
-    at-whole (t .before .before .before .args .input .now) (e .big-endian .result) (e .big-endian .ensures .0) (t .before .if1 .left) (t .if2 .left) (c .before .before .before .before .if3 .left) (c .before .before .before .if4 .left) (c .if5 .left)
+    at-whole (t .before .before .before .args .input .now) (e .big-endian .result) (e .big-endian .ensures .0) (t .if2 .left) (c .before .before .before .before .if3 .left) (c .before .before .before .if4 .left) (c .if5 .left)
 
 pub read-record-spec : {M : Type 1} → statement M
 read-record-spec =

@@ -1,19 +1,34 @@
--- `calls::response::fill` meets its contract: the loop's invariant keeps the length.
+-- `calls::response::fill` meets its contract: the loop's invariant keeps the length, and with a step of 0 the byte.
 use borrow.Author.Needs.{needs}
-use Prim.Native.Nat.{_-_, _≤_}
-use mathlib.Core.Path.{_≡_}
-use lib.ListN.{length, length-set}
+use Prim.Native.Nat.{ℕ, _+_, _-_, _≤_, _<_}
+use mathlib.Core.Path.{_≡_, refl, sym, ap, _∙_}
+use mathlib.Core.List.{List, [], _∷_, _++_}
+use native.Mathlib.Numerals.{add-one}
+use native.Mathlib.Omega.{arith}
+use lib.ListN.{length, take, set, replicate, length-set, replicate-append-replicate}
+use lib.Seq.{take-suc-set, take-all}
 use Rattle.calls.proofs.response.fill.Statement.{statement}
 use Rattle.calls.proofs.response.fill.Tie as tie
 
+-- one byte more is filled
+one-more : (bytes : List ℕ) (i b x : ℕ) → i < length bytes → x ≡ b → take i bytes ≡ replicate i b
+    → take (i + 1) (set bytes i x) ≡ replicate (i + 1) b
+one-more bytes i b x h ex e =
+    ap (λ (y : ℕ). take (i + 1) (set bytes i y)) ex
+    ∙ ap (λ (k : ℕ). take k (set bytes i b)) (add-one i)
+    ∙ take-suc-set bytes i b h
+    ∙ ap (λ (l : List ℕ). l ++ (b ∷ [])) e
+    ∙ replicate-append-replicate i 1 b
+
 abbrev Inv-loop : tie.InvT-loop
-Inv-loop bytes₀ first step next₀ i₀ bytes next i = (i ≤ length bytes₀) × (length bytes ≡ length bytes₀)
+Inv-loop bytes₀ first step next₀ i₀ bytes next i =
+    (i ≤ length bytes₀) × (length bytes ≡ length bytes₀) × (step ≡ 0 → (next ≡ next₀) × (take i bytes ≡ replicate i next₀))
 
 abbrev μ-loop : tie.MeasureT-loop
 μ-loop bytes₀ first step next₀ i₀ bytes next i = length bytes₀ - i
 
 loop-holds : tie.Need-loop-holds Inv-loop μ-loop
-loop-holds c = search needs
+loop-holds c = (search needs, refl, λ e. (refl, refl))
 
 slice-write-bytes : tie.Need-slice-write-bytes Inv-loop μ-loop
 slice-write-bytes c = search needs
@@ -28,13 +43,19 @@ loop-less : tie.Need-loop-less Inv-loop μ-loop
 loop-less c = search needs
 
 loop-again : tie.Need-loop-again Inv-loop μ-loop
-loop-again c = (search needs, simp length-set (c .before .before .loop .inv .1))
+loop-again c =
+    let l = c .before .before .loop in
+    (search needs, simp length-set (l .inv .1), λ e. (omega (arith, c .wrapping-add-u8 .ensures, l .inv .2 e .0, e), one-more (l .bytes) (l .i) _ (l .next) (search needs) (l .inv .2 e .0) (l .inv .2 e .1)))
 
 same-length : tie.Need-same-length Inv-loop μ-loop
 same-length c = search needs
 
 returns : tie.Need-returns Inv-loop μ-loop
-returns c = search needs
+returns c =
+    let l = c .before .loop in
+    let n = length (c .before .before .before .args .bytes .now) in
+    let at-end : l .i ≡ n = omega (arith, l .inv .0, l .inv .1) in
+    λ e. sym (take-all (l .i) (l .bytes) (omega (arith, at-end, l .inv .1))) ∙ l .inv .2 e .1 ∙ ap (λ (k : ℕ). replicate k (c .before .before .before .args .first)) at-end
 
 pub fill-spec : {M : Type 1} → statement M
 fill-spec =

@@ -1,11 +1,16 @@
 -- `lister::Listing::end` meets its contract: the text that was put is copied to the output, or does not end within it (Calling).
-use mathlib.Core.Path.{sym, _∙_}
+use mathlib.Core.Path.{sym, ap, _∙_}
+use mathlib.Core.Bool.{Bool}
 use lib.Seq.{length-take-le}
-use Rattle.lister.proofs.Placing.{all-of, size-of, within}
+use Rattle.lister.specs.Listing.{endText}
+use Rattle.lister.proofs.Placing.{adds-as, all-of, size-of, within}
 use Rattle.lister.proofs.Calling.{has-room, no-room}
 use borrow.Author.Needs.{needs}
 use Rattle.lister.proofs.Listing.end.Statement.{statement}
 use Rattle.lister.proofs.Listing.end.Tie as tie
+
+stops-at-requires : tie.Need-stops-at-requires
+stops-at-requires c κs = search needs
 
 put-end-requires : tie.Need-put-end-requires
 put-end-requires c κs = search needs
@@ -25,21 +30,28 @@ same-length c = search needs
 
 returns : tie.Need-returns
 returns c =
-    let g = c .before .before .before .before .before .before .before .before .before .args in let p = c .before .before .before .before .before .before .put-end in let k = c .before .before .before .copy-in in
-    has-room (g .self) (g .stops) (g .output .now) (p .result) _ (all-of (p .ensures)) (size-of (p .ensures)) (sym (k .ensures .0) ∙ c .if1 .taken) _ (k .ensures .1)
+    let k = c .before .before .before .copy-in in
+    let p = c .before .before .before .before .before .before .put-end in
+    let g = c .before .before .before .before .before .before .before .before .before .before .before .args in
+    let added = adds-as (p .ensures) (ap (λ (stops : Bool). endText stops (g .self .count)) (c .before .before .before .before .before .before .before .before .stops-at .ensures)) in
+    has-room (g .self) (g .rest .now) (g .output .now) (p .result) _ (all-of added) (size-of added) (sym (k .ensures .0) ∙ c .if1 .taken) _ (k .ensures .1)
 
 same-length-2 : tie.Need-same-length-2
 same-length-2 c = search needs
 
 returns-2 : tie.Need-returns-2
 returns-2 c =
-    let g = c .before .before .before .before .before .before .before .before .before .args in let p = c .before .before .before .before .before .before .put-end in let k = c .before .before .before .copy-in in
-    no-room (g .self) (g .stops) (g .output .now) (p .result) _ (all-of (p .ensures)) (size-of (p .ensures)) (sym (k .ensures .0) ∙ c .if1 .left) _ (k .ensures .1)
+    let k = c .before .before .before .copy-in in
+    let p = c .before .before .before .before .before .before .put-end in
+    let g = c .before .before .before .before .before .before .before .before .before .before .before .args in
+    let added = adds-as (p .ensures) (ap (λ (stops : Bool). endText stops (g .self .count)) (c .before .before .before .before .before .before .before .before .stops-at .ensures)) in
+    no-room (g .self) (g .rest .now) (g .output .now) (p .result) _ (all-of added) (size-of added) (sym (k .ensures .0) ∙ c .if1 .left) _ (k .ensures .1)
 
 pub end-spec : {M : Type 1} → statement M
 end-spec =
     tie.close
     (tie.spec
+    stops-at-requires
     put-end-requires
     array-share-prefix-text
     slice-aggregate-copy-in

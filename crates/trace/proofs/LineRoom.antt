@@ -17,14 +17,14 @@ use Rattle.frame.proofs.Flags.{bits-small}
 use Rattle.stream.specs.Answers.{Reply, meaning}
 use Rattle.trace.specs.declared.Line.{Line}
 use Rattle.trace.specs.declared.Line.the-variants as line
-use Rattle.trace.specs.Lines.{decimal, field, fields, busName, answerText, columns, headerLine, frameLine, refusedLine, stoppedLine, countLine, lineText, extendedInRange, lineInRange}
-use Rattle.trace.specs.Claims.{Longest}
+use Rattle.trace.specs.Lines.{decimal, fieldText, fieldsText, busName, answerText, columns, headerLine, frameLine, refusedLine, stoppedLine, countLine, lineText, extendedInRange, lineInRange}
+use Rattle.trace.specs.Claims.{RoomForLine}
 use Rattle.trace.proofs.Texts.{decimal-length, field-short, field-byte, answer-short, bus-short}
 
 -- the eight fields
 columns-short : (id : Fields) (flag : Flag) (n count : ℕ) → extendedInRange id ≡ true → n ≤ 63 → count ≤ 8
-    → length (fields (columns id (flagBits flag) n count)) ≤ 32
-unfolding fields inRange
+    → length (fieldsText (columns id (flagBits flag) n count)) ≤ 32
+unfolding fieldsText inRange
 columns-short (Extended p s g d f) flag n count r hn hc =
     let t = each _ r in
     let p4 = field-byte p (omega (arith, leb-true p 3 (t .0))) in
@@ -46,14 +46,14 @@ frame-short r bus id flag n count answer l hn hc =
     let b = bus-short bus in
     simp length-append (omega (arith, decimal-length r, answer-short answer))
 
-pub longest : Longest
-unfolding Longest lineText lineInRange headerLine refusedLine stoppedLine countLine
-longest line.Header h = omega arith
-longest (line.Frame r bus id flag n count answer) h =
+pub room-for-line : RoomForLine
+unfolding RoomForLine lineText lineInRange headerLine refusedLine stoppedLine countLine
+room-for-line line.Header h = omega arith
+room-for-line (line.Frame r bus id flag n count answer) h =
     let t = each _ h in
     frame-short r bus id flag n count (meaning answer) (t .1 .0) (leb-true n 63 (t .1 .1 .0)) (leb-true count 8 (t .1 .1 .1 .0))
-longest (line.Refused r bus name) h =
+room-for-line (line.Refused r bus name) h =
     let b = bus-short bus in
     simp length-append (omega (arith, decimal-length r, field-short (number name)))
-longest (line.Stopped r) h = simp length-append (omega (arith, decimal-length r))
-longest (line.Records n) h = simp length-append (omega (arith, field-short n))
+room-for-line (line.Stopped r) h = simp length-append (omega (arith, decimal-length r))
+room-for-line (line.Records n) h = simp length-append (omega (arith, field-short n))
