@@ -4,25 +4,23 @@ use mathlib.Core.Path.{_≡_, refl, sym, ap, subst, _∙_}
 use mathlib.Core.Bool.{true}
 use mathlib.Core.List.{List}
 use native.Mathlib.Omega.{arith}
-use lib.Dec.{ltb}
 use lib.ListN.{length, set, length-drop}
 use lib.Seq.{getD-set-same, set-getD, set-set}
-use borrow.Author.Tests.{eq-eqb, le-leb, eqb-true, ltb-true}
+use borrow.Author.Tests.{eq-eqb, le-leb, eqb-true}
 use Rattle.format.specs.declared.Format.the-variants.{Extended, Standard}
 use Rattle.format.specs.declared.Fields.{Fields}
 use Rattle.format.specs.declared.Fields.the-variants as fields
 use Rattle.format.specs.declared.Refusal.{Refusal}
-use Rattle.format.specs.Formats.{formatOf, inRange, numberRange}
+use Rattle.format.specs.Formats.{formatOf, inRange}
 use Rattle.format.specs.Refusals.{Result, value, refused, checkedThen, number}
-use Rattle.format.proofs.Tests.{each, from-each}
+use Rattle.format.proofs.Tests.{from-each}
 use Rattle.frame.specs.declared.Head.{Head}
 use Rattle.frame.specs.Judge.{Frame, Judged, judge}
-use Rattle.frame.specs.Image.{soundFrame}
 use Rattle.frame.specs.declared.Verdict.{Verdict}
 use Rattle.frame.specs.declared.Verdict.the-variants as verdict
 use Rattle.frame.specs.Judge as verdicts
-use Rattle.frame.specs.Claims.{Bytes, IsImage, JudgedIsImage}
-use Rattle.frame.proofs.Images.{judged-is-image}
+use Rattle.frame.specs.Claims.{Bytes}
+use Rattle.frame.proofs.Judged.{sound-image, FrameInRange, frame-in-range}
 use Rattle.stream.specs.declared.Answer.{Answer}
 use Rattle.stream.specs.declared.Answer.the-variants.{Filtered}
 use Rattle.stream.specs.Answers.{meaning}
@@ -40,7 +38,6 @@ use Rattle.station.specs.Open.{StationAfter, opening}
 use Rattle.station.specs.Parts.{frameOf, Steps}
 use Rattle.station.proofs.Calls.{good, is-found}
 use Rattle.station.proofs.Soundness.{met}
-use Rattle.frame.proofs.Judged.{sound-image}
 use Rattle.station.proofs.Turning.{turnOf, names-first, at-none, at-slot}
 use Rattle.station.proofs.Handing.{open-taken, open-full, open-lowest}
 use Rattle.trace.specs.declared.Line.the-variants as line
@@ -54,30 +51,23 @@ module _ (bus : ℕ) (b : bus ≤ 1) (head : Head) (image : List ℕ) (h : Heads
   abbrev judged : Judged
   judged = record { frame = frameOf head image; start = head .start }
 
-  is-image : IsImage Extended image judged
-  unfolding JudgedIsImage
-  is-image = judged-is-image Extended image (h .bytes) judged (sym (h .judged))
+  ranged : FrameInRange Extended judged
+  ranged = frame-in-range Extended image (h .bytes) judged (sym (h .judged))
 
   pub key-in-range : keyInRange Extended (keyOf bus (frameOf head image)) ≡ true
-  unfolding keyInRange soundFrame
-  key-in-range =
-      let t = each _ (is-image .sound) in
-      from-each _ (le-leb bus 1 b, (ap (sameFormat Extended) (is-image .of-format), (t .0, tt)))
+  unfolding keyInRange
+  key-in-range = from-each _ (le-leb bus 1 b, (ap (sameFormat Extended) (ranged .of-format), (ranged .fields, tt)))
 
   are-listed : (fs : Fields) → formatOf fs ≡ Extended → inRange fs ≡ true → extendedInRange fs ≡ true
   are-listed (fields.Extended p s g d f) e r = r
   are-listed (fields.Standard p a s) e r = let z : _≡_ {A = ℕ} 0 1 = cc in absurd (omega arith)
 
-  number-below : (fs : Fields) → formatOf fs ≡ Extended → ltb (head .number) (numberRange (formatOf fs)) ≡ true → head .number < 64
-  number-below fs e t = ltb-true _ _ (rw e at t)
-
   pub line-in-range : (ordinal count : ℕ) (answer : Answer) → count ≡ length image - head .start
       → lineInRange (line.Frame ordinal bus (head .fields) (head .flag) (head .number) count answer) ≡ true
-  unfolding lineInRange soundFrame
+  unfolding lineInRange
   line-in-range ordinal count answer e =
-      let t = each _ (is-image .sound) in
-      let n : head .number < 64 = number-below (head .fields) (is-image .of-format) (t .1 .0) in
-      from-each _ (le-leb bus 1 b, (are-listed (head .fields) (is-image .of-format) (t .0), (le-leb (head .number) 63 (omega arith), (le-leb count 8 (omega (arith, e, h .most)), tt))))
+      let n : head .number < 64 = ranged .number in
+      from-each _ (le-leb bus 1 b, (are-listed (head .fields) (ranged .of-format) (ranged .fields), (le-leb (head .number) 63 (omega arith), (le-leb count 8 (omega (arith, e, h .most)), tt))))
 
 -- ---- what is heard
 
