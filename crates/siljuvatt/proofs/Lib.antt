@@ -1,3 +1,4 @@
 pub mod Reading
 mod Words
 mod Small
+mod Bounds

@@ -2,3 +2,4 @@ pub mod Answers
 pub mod Arguments
 pub mod Calls
 pub mod Claims
+pub mod Bounds

@@ -26,6 +26,7 @@ ghost use Rattle.siljuvatt.specs.Answers.{refusedWord, brokeWord, outcom
 ghost use Rattle.siljuvatt.specs.Arguments.{noFields, extendedFields, standardFields, fieldsFrom, keyFrom};
 ghost use Rattle.siljuvatt.specs.Calls.{countIn, newIn, startAfter, rowIn};
 ghost use Rattle.siljuvatt.specs.Claims.{OneWord, Small};
+ghost use Rattle.siljuvatt.specs.Bounds.{WordBounds};
 
 fn wide(x: u8) -> u32
     ensures { λ r. ⌜ r ≡ x ⌝ }
@@ -342,4 +343,5 @@ pub extern "C" fn siljuvatt_watch_check(state: &mut [u8], time: u32) -> u32
 pub fn promised()
     ensures one_word { λ _. ⌜ OneWord ⌝ }
     ensures small { λ _. ⌜ Small ⌝ }
+    ensures word_bounds { λ _. ⌜ WordBounds ⌝ }
 {}
