@@ -14,10 +14,10 @@
  * time if neither is lent for writing what the other uses.
  *
  * ANSWERS are numbers of 32 bits. SILJUVATT_IS_REFUSED(answer) tells a refusal; SILJUVATT_NUMBER(answer) is then
- * its number, one of enum siljuvatt_refusal. A refused call has changed no byte, except that after STEP and LONG
- * the stream's record says that it is idle; it may store again what was there. Any other answer has a number, SILJUVATT_NUMBER(answer), and some have a
- * kind, SILJUVATT_KIND(answer). Where several refusals apply the answer is the first of: STATE, STORE, FIELD, and
- * then in the order in which each function lists them.
+ * its number, one of enum siljuvatt_refusal. A refused call stores nothing at all, not even what was there, except
+ * that after STEP and LONG the stream's record says that it is idle. Any other answer has a number,
+ * SILJUVATT_NUMBER(answer), and some have a kind, SILJUVATT_KIND(answer). Where several refusals apply the answer is
+ * the first of: STATE, STORE, FIELD, and then in the order in which each function lists them.
  *
  * EXAMPLE, compiled and run by library/test: a packet is split, and a station joins its pieces.
  *
@@ -97,7 +97,8 @@ enum siljuvatt_refusal {
 
 /*
  * The fields of an identifier, but for flag and number, are bytes. Extended, 5: priority 0 to 3, source 0 to 63,
- * group 0 to 3, destination 0 to 63, function 0 to 31. Standard, 3: priority 0 to 3, address 0 to 63, side 0 or 1.
+ * group 0 to 3, destination 0 to 63, function 0 to 31. Standard, 3: priority 0 to 3, address 0 to 63, side 0 or 1,
+ * which says who sent the frame: 0 the master, 1 a slave.
  */
 #define SILJUVATT_EXTENDED_FIELDS 5
 #define SILJUVATT_STANDARD_FIELDS 3
@@ -149,7 +150,7 @@ uint32_t siljuvatt_close(uint8_t *station, size_t station_length, size_t slot);
  * Receives the image of a frame on a bus. The answer's kind:
  *   SILJUVATT_PACKET    the stream has a packet, of SILJUVATT_NUMBER(answer) bytes: siljuvatt_read
  *   SILJUVATT_KEPT      more of the packet is awaited
- *   SILJUVATT_FILTERED  no slot is open with the frame's key; nothing was written
+ *   SILJUVATT_FILTERED  no slot is open with the frame's key; nothing is stored
  * SILJUVATT_BROKE(answer) is 1 if an older packet of the stream was not whole and is dropped. Only the record and the area
  * of the slot with the frame's key are written to. Refuses: STATE, STORE, FIELD (the bus), LENGTH, FORM, REMOTE, COUNT,
  * PIECE, ORPHAN, STEP, LONG.
@@ -160,7 +161,8 @@ uint32_t siljuvatt_receive(uint8_t *station, size_t station_length, uint8_t *sto
 /*
  * The packet of a slot: answers its length and sets *start to its place in the store, so that it is the bytes from
  * store + *start on. Nothing is copied. They stay until the next start or single of the slot's stream, or of one
- * that is opened in the slot after it. start must point to a size_t, which stays as it was if the call is refused. Refuses: STATE, STORE, CLOSED, NOPACKET.
+ * that is opened in the slot after it. start must point to a size_t, which stays as it was if the call is refused.
+ * Refuses: STATE, STORE, CLOSED, NOPACKET.
  */
 uint32_t siljuvatt_read(const uint8_t *station, size_t station_length, const uint8_t *store, size_t store_length,
                         size_t slot, size_t *start);
@@ -181,7 +183,8 @@ uint32_t siljuvatt_row_accepts(const uint8_t *row, size_t row_length, uint16_t i
 
 #define SILJUVATT_MASTER_SIZE 67
 
-/* Kinds of exchanges. */
+/* Kinds of exchanges. A poll is sent with function 1 and awaits a reply with function 2; the others are sent with
+   function 3 and await one with function 4. */
 #define SILJUVATT_POLL 1
 #define SILJUVATT_DATA_BLOCK 2
 #define SILJUVATT_COMMAND 3
@@ -216,7 +219,7 @@ uint32_t siljuvatt_watch_new(uint8_t *watch, size_t watch_length, uint32_t now);
 uint32_t siljuvatt_watch_heard(uint8_t *watch, size_t watch_length, uint8_t bus, uint32_t now);
 
 /* Which buses have been silent for 16,000 ms or more and are to be reset: 0 none, 1 A, 2 B, 3 both. The last time of such
-   a bus becomes now. Refuses: STATE (the watch's length). */
+   a bus becomes now; with none nothing is stored. Refuses: STATE (the watch's length). */
 uint32_t siljuvatt_watch_check(uint8_t *watch, size_t watch_length, uint32_t now);
 
 /* ---- What the bytes of a station, a master and a watch are ----

@@ -62,7 +62,7 @@ class Bus(IntEnum):
 
 
 class Kind(IntEnum):
-    """The kind of an exchange: a poll awaits a reply with function 2, the others one with function 4."""
+    """The kind of an exchange. A poll is sent with function 1 and awaits 2; the others are sent with 3 and await 4."""
 
     POLL = 1
     DATA_BLOCK = 2
@@ -84,7 +84,7 @@ class StandardFields(NamedTuple):
 
     priority: int  # 0 to 3
     address: int  # 0 to 63
-    side: int  # 1 for a slave, else 0
+    side: int  # who sent the frame: 0 the master, 1 a slave
 
 
 Fields = Union[ExtendedFields, StandardFields, Sequence[int]]

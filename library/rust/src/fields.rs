@@ -104,7 +104,7 @@ pub enum Fields {
         priority: u8,
         /// 0 to 63.
         address: u8,
-        /// 1 for a slave, else 0.
+        /// Who sent the frame: 0 the master, 1 a slave.
         side: u8,
     },
 }

@@ -15,11 +15,11 @@ const DONE: u8 = 2;
 /// The kind of an exchange.
 #[derive(Clone, Copy, Debug, PartialEq, Eq, Hash)]
 pub enum Kind {
-    /// One send; a reply has function 2.
+    /// One send, with function 1; a reply has function 2.
     Poll,
-    /// Two sends; a reply has function 4.
+    /// Two sends, with function 3; a reply has function 4.
     DataBlock,
-    /// Two sends, then a third on the other bus; a reply has function 4.
+    /// Two sends, then a third on the other bus, with function 3; a reply has function 4.
     Command,
 }
 
