@@ -1,12 +1,11 @@
 -- One record after the other.
-use Prim.Native.Nat.{ℕ, zero, suc, _+_, _-_, _%_, _≤_, _<_}
+use Prim.Native.Nat.{ℕ, zero, suc, _+_, _-_, _≤_, _<_}
 use mathlib.Core.Path.{_≡_, refl, sym, ap, subst, _∙_}
-use mathlib.Core.Bool.{Bool, true, false, not, cond}
-use mathlib.Core.List.{List, [], _∷_, _++_}
+use mathlib.Core.Bool.{Bool, true, cond}
+use mathlib.Core.List.{List, _++_}
 use native.Mathlib.Nat.{sub-zero}
 use native.Mathlib.Numerals.{sub-one}
 use native.Mathlib.Omega.{arith}
-use lib.Dec.{leb, ltb}
 use lib.ListN.{length, take, drop, set, length-drop, take-append-drop}
 use lib.Seq.{drop-drop, length-take-le}
 use borrow.Author.Tests.{le-leb, lt-leb, eq-eqb}
@@ -14,17 +13,15 @@ use Rattle.format.specs.declared.Format.the-variants.{Extended}
 use Rattle.format.specs.declared.Refusal.the-variants as refusal
 use Rattle.format.specs.Refusals.{Result, value, refused, guarded}
 use Rattle.frame.specs.Judge.{Judged, judge}
-use Rattle.packet.specs.Send.{over}
 use Rattle.stream.specs.declared.Progress.the-variants.{Idle}
 use Rattle.slot.specs.declared.Slot.{Slot}
-use Rattle.slot.specs.Slots.{openSlot, isClosed, hasKey, place}
-use Rattle.slot.specs.Sound.{sound, keyInRange}
+use Rattle.slot.specs.Slots.{openSlot, isClosed, place}
+use Rattle.slot.specs.Sound.{sound}
 use Rattle.station.specs.declared.Station.{Station}
 use Rattle.station.specs.Stations.{soundStation}
 use Rattle.station.specs.Receive.{After, keyOf, receive}
-use Rattle.station.specs.Open.{StationAfter, changedAt, opening}
-use Rattle.station.specs.Demands.{StaysSound}
-use Rattle.station.proofs.Calls.{Good, good, stays-sound}
+use Rattle.station.specs.Open.{changedAt, opening}
+use Rattle.station.proofs.Calls.{good, stays-sound}
 use Rattle.station.proofs.Isolation.{after-call}
 use Rattle.station.proofs.Soundness.{stays, openChecks}
 use Rattle.station.proofs.Turning.{rest-is}
@@ -36,7 +33,6 @@ use Rattle.trace.specs.Claims.{Sized, RoomForLine}
 use Rattle.trace.proofs.Arriving.{sized}
 use Rattle.trace.proofs.LineRoom.{room-for-line}
 use Rattle.lister.specs.declared.Listing.{Listing}
-use Rattle.lister.specs.declared.Listed.{Listed}
 use Rattle.lister.specs.declared.Told.{Told}
 use Rattle.lister.specs.declared.Why.{Why}
 use Rattle.lister.specs.declared.Why.the-variants as why

@@ -3,7 +3,7 @@ use Prim.Native.Nat.{ℕ}
 use mathlib.Core.Path.{_≡_, refl, sym, ap, _∙_}
 use mathlib.Core.List.{List, [], _∷_}
 use Rattle.station.specs.declared.Station.{Station}
-use Rattle.station.specs.Receive.{After, after, receive}
+use Rattle.station.specs.Receive.{After, after}
 use Rattle.station.specs.Run.{Call, Ran, runOn, run}
 use Rattle.station.specs.Demands.{Given, Chained, ended, AsRun, Demand3OnCalls, RoundTripOnCalls}
 use Rattle.station.proofs.Isolation.{demand3-of}

@@ -11,7 +11,6 @@ use borrow.Author.Tests.{ltb-true, eqb-true, ne-eqb}
 use Rattle.format.specs.declared.Format.{Format}
 use Rattle.format.specs.declared.Flag.{Flag}
 use Rattle.format.specs.declared.Flag.the-variants.{Middle, Start, End, Single}
-use Rattle.format.specs.Formats.{pieceSize, numberRange}
 use Rattle.format.specs.declared.Refusal.{Refusal}
 use Rattle.format.specs.declared.Refusal.the-variants.{Orphan, Step, Long, Store, State}
 use Rattle.format.specs.Refusals.{Result, value, refused, number, check, guarded, checkedThen}
@@ -25,7 +24,6 @@ use Rattle.stream.specs.Answers.{Reply, filtered}
 use Rattle.stream.specs.Step.{Next, appended, followed, stepped, step}
 use Rattle.stream.proofs.Cases.{refusedWith, while-idle, while-done, while-collecting}
 use Rattle.slot.specs.declared.Key.{Key}
-use Rattle.slot.specs.declared.Stream.{Stream}
 use Rattle.slot.specs.declared.Occupancy.{Occupancy}
 use Rattle.slot.specs.declared.Occupancy.the-variants.{Closed, Open}
 use Rattle.slot.specs.declared.Slot.{Slot}
@@ -36,7 +34,7 @@ use Rattle.slot.proofs.Places.{place-holds}
 use Rattle.station.specs.declared.Station.{Station}
 use Rattle.station.specs.Stations.{soundStation, fullSize, withSlots, area, withArea}
 use Rattle.station.specs.Receive.{After, unchanged, keyOf, progressOf, stepAt, deliver, judgedAs, examined, letIn, receive, concernedBy, concerned}
-use Rattle.station.specs.Open.{StationAfter, changedAt, opening, closing}
+use Rattle.station.specs.Open.{changedAt, opening, closing}
 use Rattle.station.proofs.Soundness.{openChecks, closeChecks}
 use Rattle.station.specs.Demands.{idled, leftBy, RefusedKeeps}
 

@@ -36,7 +36,7 @@ use Rattle.station.specs.Receive.{keyOf, examined}
 use Rattle.station.specs.Open.{isOpen}
 use Rattle.station.specs.Read.{reading}
 use Rattle.station.specs.Run.{Call, Ran, run, addIfOf, framesOf}
-use Rattle.station.specs.Demands.{IsStream, shown, alone, Isolated, fed, woven, answersTo, Arrives, RoundTripFrom, RoundTripOn, RoundTrip}
+use Rattle.station.specs.Demands.{IsStream, shown, alone, fed, woven, answersTo, Arrives, RoundTripFrom, RoundTripOn, RoundTrip}
 use Rattle.station.proofs.Slots.{sound-at}
 use Rattle.station.proofs.Calls.{Good, good, stays-sound}
 use Rattle.station.proofs.Isolation.{isolated, ended}

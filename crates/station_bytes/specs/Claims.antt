@@ -1,6 +1,6 @@
--- What is promised of a station in lent bytes. `ReadBack`, `WrittenBack` and `NotWritten` are of the bytes, `AsFirst` and `StaySound` of one
--- call, `AsRun`, `Demand3OnBytes` and `RoundTripOnBytes` of calls one after the other. Proofs: proofs/ReadBack.antt (the bytes) and
--- proofs/Runs.antt (the calls).
+-- What is promised of a station in lent bytes. `ReadBack`, `WrittenBack` and `NotWritten` are of the bytes; `AsFirst`, `StaySound` and
+-- `RefusedKeeps` of one call; `AsRun`, `Demand3OnBytes`, `RoundTripOnBytes` and `ReadAtEnd` of calls one after the other. Proofs:
+-- proofs/ReadBack.antt (the bytes) and proofs/Runs.antt (the calls).
 use Prim.Native.Nat.{ℕ}
 use mathlib.Core.Path.{_≡_}
 use mathlib.Core.Logic.{_≢_}

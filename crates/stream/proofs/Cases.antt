@@ -7,7 +7,7 @@ use lib.Dec.{leb, eqb}
 use lib.ListN.{length}
 use Rattle.format.specs.declared.Refusal.{Refusal}
 use Rattle.format.specs.declared.Refusal.the-variants.{Orphan, Step, Long}
-use Rattle.format.specs.Refusals.{Result, value, refused, number, guarded}
+use Rattle.format.specs.Refusals.{value, refused, number, guarded}
 use Rattle.stream.specs.declared.Progress.{Progress}
 use Rattle.stream.specs.declared.Progress.the-variants.{Idle, Collecting, Done}
 use Rattle.stream.specs.Step.{Next, awaited, follows, progressAfter, unlessRefused, appended, followed}

@@ -1,7 +1,7 @@
 -- The two fronts meet one definition, so that whatever holds of calls and runs on the first holds on the second (`on-table`): it is carried
 -- over, with no induction over calls. `chained` has the only one, by which calls one after the other are a run.
 use Prim.Native.Nat.{ℕ}
-use mathlib.Core.Path.{_≡_, refl, sym, ap, _∙_, subst, subst₂}
+use mathlib.Core.Path.{_≡_, refl, sym, ap, _∙_, subst}
 use mathlib.Core.Logic.{_≢_}
 use mathlib.Core.Bool.{Bool, true, false, cond}
 use mathlib.Core.List.{List, [], _∷_}
