@@ -8,13 +8,15 @@ use Rattle.format.specs.Formats.{inRange}
 use Rattle.format.proofs.Tables.{and-true, by-test, sameBool, same-bool}
 use Rattle.slot.specs.Slots.{isClosed, hasKey, place, sameFields, sameKey}
 use Rattle.slot.specs.Sound.{keyInRange, fits, slotSound, slotsSound, any, keysDiffer, sound}
-use Rattle.slot.specs.Bounds.{Bound, ranges, matches, held, sounds, finds, keyWith, table, Holds, SlotBounds}
+use Rattle.slot.specs.Codes.{keyCode}
+use Rattle.slot.specs.Bounds.{Bound, ranges, matches, held, sounds, codes, finds, keyWith, table, Holds, SlotBounds}
 
 abbrev test : Bound → Bool
 test (ranges format bus said ok) = sameBool (keyInRange format (keyWith bus said)) ok
 test (matches bus said other fs ok) = sameBool (sameKey (keyWith bus said) (keyWith other fs)) ok
 test (held format progress ok) = sameBool (fits format progress) ok
 test (sounds format slots ok) = sameBool (sound format slots) ok
+test (codes bus said n) = eqb (keyCode (keyWith bus said)) n
 test (finds bus said slots key closed) = eqb (place (hasKey (keyWith bus said)) slots) key && eqb (place isClosed slots) closed
 
 says : (bound : Bound) → test bound ≡ true → Holds bound
@@ -22,6 +24,7 @@ says (ranges format bus said ok) e = same-bool _ _ e
 says (matches bus said other fs ok) e = same-bool _ _ e
 says (held format progress ok) e = same-bool _ _ e
 says (sounds format slots ok) e = same-bool _ _ e
+says (codes bus said n) e = eqb-true _ _ e
 says (finds bus said slots key closed) e = let h = and-true _ _ e in (eqb-true _ _ (h .0), eqb-true _ _ (h .1))
 
 pub slot-bounds : SlotBounds

@@ -17,6 +17,7 @@ use Rattle.slot.specs.declared.Key.{Key}
 use Rattle.slot.specs.declared.Slot.{Slot}
 use Rattle.slot.specs.Slots.{closedSlot, openSlot, isClosed, hasKey, place, sameKey}
 use Rattle.slot.specs.Sound.{keyInRange, fits, sound}
+use Rattle.slot.specs.Codes.{keyCode}
 
 pub data Bound : Type 0 where
   -- whether a key is in range
@@ -27,6 +28,8 @@ pub data Bound : Type 0 where
   held : Format → Progress → Bool → Bound
   -- whether slots are sound
   sounds : Format → List Slot → Bool → Bound
+  -- a key's number of 32 bits
+  codes : (bus : ℕ) → Fields → ℕ → Bound
   -- where a key is open, and which slot is closed first
   finds : (bus : ℕ) → Fields → List Slot → (key closed : ℕ) → Bound
 
@@ -97,6 +100,12 @@ table =
     ∷ sounds Extended (replicate 15 closedSlot ++ (opened 2 node ∷ [])) false
     ∷ sounds Extended (replicate 15 closedSlot ++ (openSlot (keyWith 0 node) (Done 2049) ∷ [])) false
     ∷ sounds Standard (replicate 15 closedSlot ++ (opened 0 node ∷ [])) false
+    -- from the lowest bit: priority 2, function 5, bus 1; then source, group and destination, a byte each. Standard: address, 01 above it; side
+    ∷ codes 0 (fields.Extended 3 0 0 0 0) 3
+    ∷ codes 1 node 0x0602058D
+    ∷ codes 1 (fields.Extended 3 63 3 63 31) 0x3F033FFF
+    ∷ codes 1 side 0x00015682
+    ∷ codes 0 (fields.Standard 0 0 0) 0x00004000
     -- the first of them, 16 if there is none
     ∷ finds 0 node (replicate 16 closedSlot) 16 0
     ∷ finds 1 node (opened 0 node ∷ opened 1 node ∷ replicate 14 closedSlot) 1 2
@@ -109,6 +118,7 @@ Holds (ranges format bus said ok) = keyInRange format (keyWith bus said) ≡ ok
 Holds (matches bus said other fs ok) = sameKey (keyWith bus said) (keyWith other fs) ≡ ok
 Holds (held format progress ok) = fits format progress ≡ ok
 Holds (sounds format slots ok) = sound format slots ≡ ok
+Holds (codes bus said n) = keyCode (keyWith bus said) ≡ n
 Holds (finds bus said slots key closed) = (place (hasKey (keyWith bus said)) slots ≡ key) × (place isClosed slots ≡ closed)
 
 unfoldable pub SlotBounds : Type 0

@@ -6,3 +6,4 @@ pub mod Calling
 pub mod Handing
 pub mod ReadBack
 pub mod Runs
+mod Bounds

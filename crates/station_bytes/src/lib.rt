@@ -33,6 +33,7 @@ ghost use Rattle.station_bytes.specs.States.{formatNumber, formatIn, pro
 ghost use Rattle.station_bytes.specs.Calls.{receiveIn, renewed, openIn, closeIn, readIn, bytesAfter, stateAfter};
 ghost use Rattle.station_bytes.specs.Parts.{keyFits, progressFits, recordsGood, recordCodes, Tested, IsThere, StepsIn};
 ghost use Rattle.station_bytes.specs.Claims as claims;
+ghost use Rattle.station_bytes.specs.Bounds.{StateBounds};
 
 // The bytes of a state.
 pub struct State;
@@ -398,4 +399,5 @@ pub fn promised()
     ensures demand3_on_bytes { λ _. ⌜ claims.Demand3OnBytes ⌝ }
     ensures round_trip_on_bytes { λ _. ⌜ claims.RoundTripOnBytes ⌝ }
     ensures read_at_end { λ _. ⌜ claims.ReadAtEnd ⌝ }
+    ensures state_bounds { λ _. ⌜ StateBounds ⌝ }
 {}
