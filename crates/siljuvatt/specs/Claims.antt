@@ -1,7 +1,9 @@
--- What is promised of the numbers that the calls answer. Proofs: proofs/Words.antt (`OneWord`), proofs/Small.antt (`Small`).
+-- What is promised of the numbers that the calls answer. Proofs: proofs/Words.antt (`OneWord`), proofs/Small.antt (`Small`),
+-- proofs/Reading.antt (`ReadsThere`).
 use Prim.Native.Nat.{ℕ, _≤_}
 use mathlib.Core.Path.{_≡_}
 use mathlib.Core.List.{List}
+use lib.ListN.{length, take, drop}
 use Rattle.format.specs.declared.Fields.{Fields}
 use Rattle.format.specs.Refusals.{Result, value, refused}
 use Rattle.packet.specs.Send as sending
@@ -13,7 +15,7 @@ use Rattle.master.specs.Exchanges.{Told, send, done, gaveUp}
 use Rattle.master_bytes.specs.Calls as masters
 use Rattle.watch_bytes.specs.States as watches
 use Rattle.siljuvatt.specs.Answers.{outcomeWord, replyWord, toldWord}
-use Rattle.siljuvatt.specs.Calls.{countIn, newIn, rowIn}
+use Rattle.siljuvatt.specs.Calls.{countIn, newIn, startAfter, rowIn}
 
 -- a value for which that holds, or one of the 21 refusals
 abbrev pub Within : {A : Type 0} → (A → Type 0) → Result A → Type 0
@@ -64,3 +66,9 @@ pub record Small : Type 0 where
   pub new-watch : (state : List ℕ) (time : ℕ) → UpTo 0 (watches.renew state time .answer)
   pub hears : (state : List ℕ) (bus time : ℕ) → UpTo 1 (watches.hearing state bus time .answer)
   pub checks : (state : List ℕ) (time : ℕ) → UpTo 3 (watches.checking state time .answer)
+
+-- a packet that is read stands in the store where the call says that it begins
+unfoldable pub ReadsThere : Type 0
+ReadsThere =
+    (state store : List ℕ) (slot start : ℕ) (bytes : List ℕ) → readIn state store slot ≡ value bytes
+    → bytes ≡ take (length bytes) (drop (startAfter (readIn state store slot) slot start) store)

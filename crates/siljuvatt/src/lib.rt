@@ -25,8 +25,8 @@ ghost use Rattle.watch_bytes.specs.States as watches;
 ghost use Rattle.siljuvatt.specs.Answers.{refusedWord, brokeWord, outcomeWord, replyWord, toldWord};
 ghost use Rattle.siljuvatt.specs.Arguments.{noFields, extendedFields, standardFields, fieldsFrom, keyFrom};
 ghost use Rattle.siljuvatt.specs.Calls.{countIn, newIn, startAfter, rowIn};
-ghost use Rattle.siljuvatt.specs.Claims.{OneWord, Small};
-ghost use Rattle.siljuvatt.specs.Bounds.{WordBounds};
+ghost use Rattle.siljuvatt.specs.Claims.{OneWord, Small, ReadsThere};
+ghost use Rattle.siljuvatt.specs.Bounds.{LibraryBounds};
 
 fn wide(x: u8) -> u32
     ensures { λ r. ⌜ r ≡ x ⌝ }
@@ -343,5 +343,6 @@ pub extern "C" fn siljuvatt_watch_check(state: &mut [u8], time: u32) -> u32
 pub fn promised()
     ensures one_word { λ _. ⌜ OneWord ⌝ }
     ensures small { λ _. ⌜ Small ⌝ }
-    ensures word_bounds { λ _. ⌜ WordBounds ⌝ }
+    ensures reads_there { λ _. ⌜ ReadsThere ⌝ }
+    ensures library_bounds { λ _. ⌜ LibraryBounds ⌝ }
 {}
