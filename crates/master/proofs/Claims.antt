@@ -20,7 +20,7 @@ use Rattle.master.specs.declared.Activity.{Activity}
 use Rattle.master.specs.declared.Activity.the-variants.{Idle, UnderWay}
 use Rattle.master.specs.declared.Master.{Master}
 use Rattle.master.specs.Masters.{planOf, chosenBus, other, switched, busesInRange, chosenSound, exchangeSound, sound}
-use Rattle.master.specs.Exchanges.{Told, send, done, gaveUp, Step, MasterAfter, given, handedBack, underWay, sent, ended, starting, counts, replying, chosenAfter, again, expired, timingOut}
+use Rattle.master.specs.Exchanges.{Told, send, done, gaveUp, Step, MasterAfter, given, handedBack, underWay, sent, exchangeEnded, starting, counts, replying, chosenAfter, again, expired, timingOut}
 use Rattle.master.specs.Runs.{Call, start, reply, timeout, call, answers, run, sentOn, latest, unlessRefused, notRefused, withoutRefusals}
 use Rattle.master.specs.Claims.{NewIsSound, StaysSound, RefusedKeeps, RefusedPlayNoPart, Unanswered, LatestSend, LateReply}
 use Rattle.master.proofs.Buses.{set-sound}
@@ -79,7 +79,7 @@ expired-sound chosen Idle s e = idle-sound chosen s
 expired-sound chosen (UnderWay x) s e = go (ltb (x .sends) (planOf (x .kind) .total)) refl
   where
     go : (b : Bool) → ltb (x .sends) (planOf (x .kind) .total) ≡ b
-        → sound (cond b (sent (chosenAfter chosen x) (again x)) (ended gaveUp (chosenAfter chosen x)) .next) ≡ true
+        → sound (cond b (sent (chosenAfter chosen x) (again x)) (exchangeEnded gaveUp (chosenAfter chosen x)) .next) ≡ true
     go true t =
         let parts = each _ e in
         let n = leb-true _ _ (parts .0) in
@@ -146,7 +146,7 @@ After bus h = SentOn (sentOn bus (h .answer)) (h .master)
 sends-there : (bus : ℕ) (chosen : List ℕ) (x : Exchange) → After bus (given (sent chosen x))
 sends-there bus chosen x exchange e = let i : x ≡ exchange = cc in ap (λ (y : Exchange). chosenBus chosen (y .node)) (sym i)
 
-ends-there : (bus : ℕ) (answer : Told) (chosen : List ℕ) → After bus (given (ended answer chosen))
+ends-there : (bus : ℕ) (answer : Told) (chosen : List ℕ) → After bus (given (exchangeEnded answer chosen))
 ends-there bus answer chosen exchange e = let z : _≡_ {A = ℕ} 0 1 = cc in absurd (omega arith)
 
 expires-there : (bus : ℕ) (chosen : List ℕ) (activity : Activity) → After bus (given (expired chosen activity))
@@ -155,7 +155,7 @@ expires-there bus chosen Idle = ends-there bus gaveUp chosen
 expires-there bus chosen (UnderWay x) = go (ltb (x .sends) (planOf (x .kind) .total))
   where
     go : (b : Bool)
-        → After bus (given (cond b (sent (chosenAfter chosen x) (again x)) (ended gaveUp (chosenAfter chosen x))))
+        → After bus (given (cond b (sent (chosenAfter chosen x) (again x)) (exchangeEnded gaveUp (chosenAfter chosen x))))
     go true = sends-there bus _ _
     go false = ends-there bus gaveUp _
 

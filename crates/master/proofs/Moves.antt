@@ -18,7 +18,7 @@ use Rattle.master.specs.declared.Exchange.{Exchange}
 use Rattle.master.specs.declared.Activity.the-variants.{Idle, UnderWay}
 use Rattle.master.specs.declared.Master.{Master}
 use Rattle.master.specs.Masters.{planOf, switched, exchangeSound, sound}
-use Rattle.master.specs.Exchanges.{MasterAfter, given, handedBack, gaveUp, done, underWay, sent, ended, starting, counts, replying, chosenAfter, again, expired, timingOut}
+use Rattle.master.specs.Exchanges.{MasterAfter, given, handedBack, gaveUp, done, underWay, sent, exchangeEnded, starting, counts, replying, chosenAfter, again, expired, timingOut}
 
 abbrev pub refuses : Master → ℕ → MasterAfter
 refuses master n = record { answer = refused n; master = master }
@@ -39,7 +39,7 @@ module _ (chosen : List ℕ) (exchange : Exchange) where
   unfolding expired
   goes-on h = rw (lt-ltb _ _ h)
 
-  pub gives-up : planOf (exchange .kind) .total ≤ exchange .sends → ended gaveUp (chosenAfter chosen exchange) ≡ expired chosen (UnderWay exchange)
+  pub gives-up : planOf (exchange .kind) .total ≤ exchange .sends → exchangeEnded gaveUp (chosenAfter chosen exchange) ≡ expired chosen (UnderWay exchange)
   unfolding expired
   gives-up h = rw (le-ltb _ _ h)
 
@@ -103,7 +103,7 @@ module _ (master : Master) (bus node function : ℕ) where
         reply-other n =
             ap (handedBack master) (pass refusal.State _ _ s (pass refusal.Field _ _ r (pass refusal.Idle _ _ b (stop refusal.NotAwaited _ _ n))))
 
-        pub reply-done : Counts true → given (ended done (master .chosen)) ≡ replying master bus node function
+        pub reply-done : Counts true → given (exchangeEnded done (master .chosen)) ≡ replying master bus node function
         unfolding replying
         reply-done n =
             ap (handedBack master)

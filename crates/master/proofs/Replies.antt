@@ -18,7 +18,7 @@ use Rattle.master.specs.declared.Activity.{Activity}
 use Rattle.master.specs.declared.Activity.the-variants.{UnderWay}
 use Rattle.master.specs.declared.Master.{Master}
 use Rattle.master.specs.Masters.{planOf, chosenBus, switched, chosenSound, sound}
-use Rattle.master.specs.Exchanges.{done, gaveUp, Step, MasterAfter, given, underWay, sent, ended, starting, counts, replying, chosenAfter, again, expired, timingOut}
+use Rattle.master.specs.Exchanges.{done, gaveUp, Step, MasterAfter, given, underWay, sent, exchangeEnded, starting, counts, replying, chosenAfter, again, expired, timingOut}
 use Rattle.master.specs.Runs.{Call, start, timeout, call, run}
 use Rattle.master.specs.Claims.{buses, awaits, Answered, Functions, BusesKept, StaysSound, LatestSend}
 use Rattle.master.proofs.Buses.{bus-at}
@@ -44,7 +44,7 @@ module _ (m : Master) (x : Exchange) (s : sound m ≡ true) (e : m .activity ≡
   unfolding counts
   it-counts = from-each _ (eq-eqb (x .node) _ refl, (eq-eqb (planOf (x .kind) .awaited) _ refl, (eq-eqb onIt _ refl, tt)))
 
-  is-done : replying m onIt (x .node) (planOf (x .kind) .awaited) ≡ given (ended done (m .chosen))
+  is-done : replying m onIt (x .node) (planOf (x .kind) .awaited) ≡ given (exchangeEnded done (m .chosen))
   is-done =
       let b : onIt ≤ 1 = bus-small in
       let n : x .node ≤ 63 = node-in-range m x s e in
@@ -142,7 +142,7 @@ unfolding expired
 expired-other chosen x other d = go (ltb (x .sends) (planOf (x .kind) .total))
   where
     next : Bool → Step
-    next b = cond b (sent (chosenAfter chosen x) (again x)) (ended gaveUp (chosenAfter chosen x))
+    next b = cond b (sent (chosenAfter chosen x) (again x)) (exchangeEnded gaveUp (chosenAfter chosen x))
 
     go : (b : Bool) → chosenBus (next b .next .chosen) other ≡ chosenBus chosen other
     go true = after-other chosen x other d

@@ -55,8 +55,8 @@ sent chosen exchange =
     record { told = send (chosenBus chosen (exchange .node)); next = record { chosen = chosen; activity = UnderWay exchange } }
 
 -- an exchange ends
-abbrev pub ended : Told → List ℕ → Step
-ended told chosen = record { told = told; next = record { chosen = chosen; activity = Idle } }
+abbrev pub exchangeEnded : Told → List ℕ → Step
+exchangeEnded told chosen = record { told = told; next = record { chosen = chosen; activity = Idle } }
 
 -- BUSY: start during an exchange
 unfoldable pub starting : Master → Kind → ℕ → MasterAfter
@@ -89,7 +89,7 @@ replying master bus node function =
     ∷ check refusal.Idle (underWay (master .activity))
     ∷ check refusal.NotAwaited (counts (master .chosen) bus node function (master .activity))
     ∷ [])
-    (ended done (master .chosen)))
+    (exchangeEnded done (master .chosen)))
 
 -- the chosen buses after a timeout: the other bus for the node if the sends on the first are used up
 unfoldable pub chosenAfter : List ℕ → Exchange → List ℕ
@@ -102,11 +102,11 @@ again exchange = record { kind = exchange .kind; node = exchange .node; sends = 
 
 -- the next send, or, with the sends used up, gives up; the case Idle is never used, as IDLE is refused first
 unfoldable pub expired : List ℕ → Activity → Step
-expired chosen Idle = ended gaveUp chosen
+expired chosen Idle = exchangeEnded gaveUp chosen
 expired chosen (UnderWay exchange) =
     cond (ltb (exchange .sends) (planOf (exchange .kind) .total))
     (sent (chosenAfter chosen exchange) (again exchange))
-    (ended gaveUp (chosenAfter chosen exchange))
+    (exchangeEnded gaveUp (chosenAfter chosen exchange))
 
 -- IDLE: timeout with none
 unfoldable pub timingOut : Master → MasterAfter

@@ -60,8 +60,8 @@ unfoldable pub timingOut : List ℕ → MasterBytesAfter exchanges.Told
 timingOut state = onState state (exchanges.timingOut (masterIn state))
 
 -- what the code's answer says, and the bytes afterwards
-abbrev pub renewed : Outcome → List ℕ → MasterBytesAfter ℕ
-renewed r state = record { answer = refusals.meaning r; state = state }
+abbrev pub renewAfter : Outcome → List ℕ → MasterBytesAfter ℕ
+renewAfter r state = record { answer = refusals.meaning r; state = state }
 
 abbrev pub masterBytesAfter : Answer → List ℕ → MasterBytesAfter exchanges.Told
 masterBytesAfter r state = record { answer = exchanges.meaning r; state = state }

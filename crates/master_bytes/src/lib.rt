@@ -143,7 +143,7 @@ fn hand_back(state: &mut [u8], moved: Moved) -> Answer
 
 // Makes the bytes a new master's: bus A chosen for every node, no exchange. Answers 0, or refuses: STATE.
 pub fn new(state: &mut [u8]) -> Outcome
-    ensures { λ r. ⌜ calls.renewed r (now (state .exit)) ≡ calls.renew (now (state .entry)) ⌝ }
+    ensures { λ r. ⌜ calls.renewAfter r (now (state .exit)) ≡ calls.renew (now (state .entry)) ⌝ }
 {
     if state.len() != State::SIZE {
         return Outcome::Refused(Refusal::State);

@@ -10,7 +10,7 @@ use Rattle.format.specs.declared.Refusal.the-variants.{Orphan, Step, Long}
 use Rattle.format.specs.Refusals.{value, refused, number, guarded}
 use Rattle.stream.specs.declared.Progress.{Progress}
 use Rattle.stream.specs.declared.Progress.the-variants.{Idle, Collecting, Done}
-use Rattle.stream.specs.Step.{Next, awaited, follows, progressAfter, unlessRefused, appended, followed}
+use Rattle.stream.specs.Step.{Next, awaited, follows, progressAfter, orRefused, appended, followed}
 
 -- refused by that name, with a progress then
 abbrev pub refusedWith : Refusal → Progress → List ℕ → Next
@@ -34,7 +34,7 @@ module _ (Holds : Next → Type 0) (z m : ℕ) (last : Bool) (area : List ℕ) (
   while-collecting h step long on = go (eqb n (awaited z m h)) (leb (h + length bytes) 2048) refl refl
     where
       go : (a w : Bool) → eqb n (awaited z m h) ≡ a → leb (h + length bytes) 2048 ≡ w
-          → Holds (unlessRefused (Collecting h) area
+          → Holds (orRefused (Collecting h) area
           (cond a (cond w (value (appended last h area bytes)) (refused (number Long))) (refused (number Step))))
       go false w ea ew = step ea
       go true false ea ew = long ea ew

@@ -54,9 +54,9 @@ follows z m progress n size =
 unfoldable pub progressAfter : (n : ℕ) → Progress → Progress
 progressAfter n progress = cond (eqb n (number refusal.Orphan)) progress Idle
 
-abbrev pub unlessRefused : Progress → (area : List ℕ) → Result Next → Next
-unlessRefused progress area (value next) = next
-unlessRefused progress area (refused n) = record { answer = refused n; progress = progressAfter n progress; area = area }
+abbrev pub orRefused : Progress → (area : List ℕ) → Result Next → Next
+orRefused progress area (value next) = next
+orRefused progress area (refused n) = record { answer = refused n; progress = progressAfter n progress; area = area }
 
 -- "else the bytes follow those held; "kept", or "packet" and done for an end": `last` for an end
 abbrev pub appended : (last : Bool) (h : ℕ) (area bytes : List ℕ) → Next
@@ -67,7 +67,7 @@ appended true h area bytes =
 
 unfoldable pub followed : (z m : ℕ) (last : Bool) → Progress → (area : List ℕ) (n : ℕ) (bytes : List ℕ) → Next
 followed z m last progress area n bytes =
-    unlessRefused progress area (guarded (follows z m progress n (length bytes)) (appended last (held progress) area bytes))
+    orRefused progress area (guarded (follows z m progress n (length bytes)) (appended last (held progress) area bytes))
 
 -- a frame by its flag, number n and packet bytes.
 -- single: its bytes go to the head of the area; done; answer "packet" with the length.

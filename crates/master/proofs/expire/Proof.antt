@@ -4,7 +4,7 @@ use mathlib.Core.Path.{_∙_, ap}
 use mathlib.Core.List.{List}
 use native.Mathlib.Omega.{arith}
 use Rattle.master.specs.declared.Plan.{Plan}
-use Rattle.master.specs.Exchanges.{gaveUp, given, sent, ended, again, masterAfter}
+use Rattle.master.specs.Exchanges.{gaveUp, given, sent, exchangeEnded, again, masterAfter}
 use Rattle.master.proofs.Moves.{goes-on, gives-up, few-sends}
 use borrow.Author.Needs.{needs}
 use Rattle.master.proofs.expire.Statement.{statement}
@@ -41,7 +41,7 @@ returns-2 c =
     let g = c .before .before .before .before .before .before .args in
     let n = c .before .before .before .before .before .chosen-after .ensures in
     let e = ap (λ (p : Plan). p .total) (c .before .before .before .before .plan-of .ensures) in
-    ap masterAfter (c .end .ensures) ∙ ap (λ (chosen : List ℕ). given (ended gaveUp chosen)) n ∙ ap given (gives-up (g .chosen) (g .exchange) (omega arith))
+    ap masterAfter (c .end .ensures) ∙ ap (λ (chosen : List ℕ). given (exchangeEnded gaveUp chosen)) n ∙ ap given (gives-up (g .chosen) (g .exchange) (omega arith))
 
 pub expire-spec : {M : Type 1} → statement M
 expire-spec =
