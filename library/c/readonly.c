@@ -1,7 +1,8 @@
 /*
  * A call that is refused stores nothing at all, not even what was there: it is made with its state, store and output in
- * pages that cannot be written. So is a check that resets nothing, and an image that no slot is open for. Prints each
- * call that fails and ends with 1 if one does.
+ * pages that cannot be written. So is a check that resets nothing, and an image that no slot is open for. After STEP
+ * and LONG the stream's record is idle, so that they are made with the store alone in such pages. Stations are of both
+ * formats. Prints each call that fails and ends with 1 if one does.
  */
 #define _DEFAULT_SOURCE
 #include "siljuvatt.h"
@@ -15,15 +16,16 @@
 
 struct lent {
     uint8_t station[SILJUVATT_STATION_SIZE];
-    uint8_t store[SILJUVATT_STORE_SIZE];
     uint8_t output[SILJUVATT_EXTENDED_IMAGE];
     uint8_t master[SILJUVATT_MASTER_SIZE];
     uint8_t watch[SILJUVATT_WATCH_SIZE];
     size_t start;
 };
 
+/* The store has pages of its own. */
 static struct lent *lent;
-static size_t lent_size;
+static uint8_t *store;
+static size_t page;
 static sigjmp_buf before;
 static int calls;
 static int failures;
@@ -34,9 +36,28 @@ static void stored(int signal)
     siglongjmp(before, 1);
 }
 
-static void allow(int access)
+static size_t in_pages(size_t size)
 {
-    if (mprotect(lent, lent_size, access) != 0) {
+    return (size + page - 1) / page * page;
+}
+
+#define WRITABLE (PROT_READ | PROT_WRITE)
+
+static void *map(size_t size)
+{
+    void *mapped = mmap(NULL, in_pages(size), WRITABLE, MAP_PRIVATE | MAP_ANONYMOUS, -1, 0);
+
+    if (mapped == MAP_FAILED) {
+        perror("mmap");
+        _exit(1);
+    }
+    return mapped;
+}
+
+static void allow(int for_lent, int for_store)
+{
+    if (mprotect(lent, in_pages(sizeof *lent), for_lent) != 0
+        || mprotect(store, in_pages(SILJUVATT_STORE_SIZE), for_store) != 0) {
         perror("mprotect");
         _exit(1);
     }
@@ -59,95 +80,214 @@ static void same(uint32_t answer, uint32_t expected, const char *call, int line)
     }
 }
 
-/* The answer of the call, or UNWRITTEN, which is none, if it stored. */
-#define READ_ONLY(call, expected) \
+/* The answer of the call, or UNWRITTEN, which is none, if it stored where it may not. */
+#define ALLOWED(for_lent, for_store, call, expected) \
     do { \
         volatile uint32_t answer = UNWRITTEN; \
-        allow(PROT_READ); \
+        allow(for_lent, for_store); \
         if (sigsetjmp(before, 1) == 0) { \
             answer = (call); \
         } \
-        allow(PROT_READ | PROT_WRITE); \
+        allow(WRITABLE, WRITABLE); \
         same(answer, (expected), #call, __LINE__); \
     } while (0)
 
-#define REFUSED(call, number) READ_ONLY(call, UINT32_C(0x80000000) + (number))
+#define REFUSAL(number) (UINT32_C(0x80000000) + (number))
+#define READ_ONLY(call, expected) ALLOWED(PROT_READ, PROT_READ, call, expected)
+#define REFUSED(call, number) READ_ONLY(call, REFUSAL(number))
+
+/* A refusal after which the stream is idle: the store alone cannot be written. */
+#define MADE_IDLE(call, number) ALLOWED(WRITABLE, PROT_READ, call, REFUSAL(number))
 
 /* A call that is not refused, with all of it open to writing. */
 #define MADE(call, expected) same((call), (expected), #call, __LINE__)
 
-static const uint8_t fields[SILJUVATT_EXTENDED_FIELDS] = {1, 5, 0, 0, 2};
-static const uint8_t wrong[SILJUVATT_EXTENDED_FIELDS] = {4, 5, 0, 0, 2};
-static const uint8_t single[] = {0x81, 0x45, 0x00, 0xC0, 0x10, 0x07};
-static const uint8_t start[] = {0x88, 0x45, 0x00, 0x40, 0x10, 1, 2, 3, 4, 5, 6, 7, 8};
-static const uint8_t middle[] = {0x88, 0x45, 0x00, 0x02, 0x10, 1, 2, 3, 4, 5, 6, 7, 8};
-static const uint8_t end[] = {0x81, 0x45, 0x00, 0x81, 0x10, 9};
+struct image {
+    size_t length;
+    uint8_t bytes[SILJUVATT_EXTENDED_IMAGE];
+};
+
+/* An image that is refused whatever the stream is. */
+struct bad_image {
+    uint32_t number;
+    struct image image;
+};
+
+struct format {
+    const char *name;
+    uint8_t number;
+    size_t limit;
+    size_t longest_image;
+    size_t fields_length;
+    uint8_t fields[SILJUVATT_EXTENDED_FIELDS];
+    uint8_t wrong[SILJUVATT_EXTENDED_FIELDS];
+    struct image single;
+    struct image start;
+    struct image end;           /* number 1 */
+    struct image later_middle;  /* number 2 */
+    struct image later_end;     /* number 2 */
+    size_t bad_images;
+    struct bad_image bad[5];
+};
+
+static const struct format extended = {
+    "extended", SILJUVATT_EXTENDED, SILJUVATT_EXTENDED_LIMIT, SILJUVATT_EXTENDED_IMAGE, SILJUVATT_EXTENDED_FIELDS,
+    {1, 5, 0, 0, 2},
+    {4, 5, 0, 0, 2},
+    {6, {0x81, 0x45, 0x00, 0xC0, 0x10, 0x07}},
+    {13, {0x88, 0x45, 0x00, 0x40, 0x10, 1, 2, 3, 4, 5, 6, 7, 8}},
+    {6, {0x81, 0x45, 0x00, 0x81, 0x10, 9}},
+    {13, {0x88, 0x45, 0x00, 0x02, 0x10, 1, 2, 3, 4, 5, 6, 7, 8}},
+    {6, {0x81, 0x45, 0x00, 0x82, 0x10, 9}},
+    5,
+    {
+        {SILJUVATT_LENGTH, {4, {0x81, 0x45, 0x00, 0xC0}}},
+        {SILJUVATT_FORM, {6, {0x91, 0x45, 0x00, 0xC0, 0x10, 0x07}}},
+        {SILJUVATT_REMOTE, {6, {0xC1, 0x45, 0x00, 0xC0, 0x10, 0x07}}},
+        {SILJUVATT_COUNT, {6, {0x82, 0x45, 0x00, 0xC0, 0x10, 0x07}}},
+        {SILJUVATT_PIECE, {6, {0x81, 0x45, 0x00, 0xC1, 0x10, 0x07}}},
+    },
+};
+
+static const struct format standard = {
+    "standard", SILJUVATT_STANDARD, SILJUVATT_STANDARD_LIMIT, SILJUVATT_STANDARD_IMAGE, SILJUVATT_STANDARD_FIELDS,
+    {2, 22, 1},
+    {4, 22, 1},
+    {3, {0x96, 0xE1, 0x07}},
+    {10, {0x96, 0xA8, 0, 1, 2, 3, 4, 5, 6, 7}},
+    {5, {0x96, 0xC3, 1, 8, 9}},
+    {10, {0x96, 0x88, 2, 1, 2, 3, 4, 5, 6, 7}},
+    {4, {0x96, 0xC2, 2, 8}},
+    4,
+    {
+        {SILJUVATT_LENGTH, {1, {0x96}}},
+        {SILJUVATT_REMOTE, {3, {0x96, 0xF1, 0x07}}},
+        {SILJUVATT_COUNT, {3, {0x96, 0xE2, 0x07}}},
+        {SILJUVATT_PIECE, {4, {0x96, 0xC2, 1, 8}}},
+    },
+};
 
 #define STATION lent->station, sizeof lent->station
-#define STORE lent->store, sizeof lent->store
-#define RECEIVE(bus, image) siljuvatt_receive(STATION, STORE, bus, image, sizeof image)
-#define OPEN(bus, said) siljuvatt_open(STATION, bus, said, sizeof said)
+#define STORE store, SILJUVATT_STORE_SIZE
+#define RECEIVE(bus, image) siljuvatt_receive(STATION, STORE, bus, (image).bytes, (image).length)
+#define OPEN(bus, said) siljuvatt_open(STATION, bus, said, format->fields_length)
 
-/* That a store to such a page is noticed. */
-static uint32_t store_a_byte(void)
+/* That a store to such a page is noticed, and only there. */
+static uint32_t store_at(volatile uint8_t *byte)
 {
-    *(volatile uint8_t *)lent->store = 7;
+    *byte = 7;
     return 0;
 }
 
-static void splitting(void)
+static void protection(void)
+{
+    READ_ONLY(store_at(store), UNWRITTEN);
+    READ_ONLY(store_at(lent->station), UNWRITTEN);
+    ALLOWED(WRITABLE, PROT_READ, store_at(store), UNWRITTEN);
+    ALLOWED(WRITABLE, PROT_READ, store_at(lent->station), 0);
+}
+
+static void splitting(const struct format *format)
 {
     static uint8_t packet[SILJUVATT_EXTENDED_LIMIT + 1];
     uint8_t *output = lent->output;
+    size_t room = format->longest_image;
 
-    REFUSED(siljuvatt_write_piece(0, wrong, sizeof wrong, packet, 9, 0, output, 13), SILJUVATT_FIELD);
-    REFUSED(siljuvatt_write_piece(0, fields, sizeof fields, packet, sizeof packet, 0, output, 13), SILJUVATT_SIZE);
-    REFUSED(siljuvatt_write_piece(0, fields, sizeof fields, packet, 9, 2, output, 13), SILJUVATT_INDEX);
-    REFUSED(siljuvatt_write_piece(0, fields, sizeof fields, packet, 9, 0, output, 12), SILJUVATT_ROOM);
+#define WRITE(said, size, k, room) \
+    siljuvatt_write_piece(format->number, said, format->fields_length, packet, size, k, output, room)
+    REFUSED(WRITE(format->wrong, 9, 0, room), SILJUVATT_FIELD);
+    REFUSED(WRITE(format->fields, format->limit + 1, 0, room), SILJUVATT_SIZE);
+    REFUSED(WRITE(format->fields, 9, 2, room), SILJUVATT_INDEX);
+    REFUSED(WRITE(format->fields, 9, 0, room - 1), SILJUVATT_ROOM);
+#undef WRITE
 }
 
-static void images(void)
+static void bad_image(struct bad_image bad)
 {
-    static const uint8_t length[] = {0x81, 0x45, 0x00, 0xC0};
-    static const uint8_t form[] = {0x91, 0x45, 0x00, 0xC0, 0x10, 0x07};
-    static const uint8_t remote[] = {0xC1, 0x45, 0x00, 0xC0, 0x10, 0x07};
-    static const uint8_t count[] = {0x82, 0x45, 0x00, 0xC0, 0x10, 0x07};
-    static const uint8_t piece[] = {0x81, 0x45, 0x00, 0xC1, 0x10, 0x07};
-
-    REFUSED(siljuvatt_receive(STATION, lent->store, 9, 0, single, sizeof single), SILJUVATT_STORE);
-    REFUSED(RECEIVE(2, single), SILJUVATT_FIELD);
-    REFUSED(RECEIVE(0, length), SILJUVATT_LENGTH);
-    REFUSED(RECEIVE(0, form), SILJUVATT_FORM);
-    REFUSED(RECEIVE(0, remote), SILJUVATT_REMOTE);
-    REFUSED(RECEIVE(0, count), SILJUVATT_COUNT);
-    REFUSED(RECEIVE(0, piece), SILJUVATT_PIECE);
+    REFUSED(RECEIVE(0, bad.image), bad.number);
 }
 
-/* STEP and LONG are not among these: the slot is idle after them. */
-static void receiving(void)
+static void images(const struct format *format)
 {
+    size_t i;
+
+    REFUSED(siljuvatt_receive(STATION, store, 9, 0, format->single.bytes, format->single.length), SILJUVATT_STORE);
+    REFUSED(RECEIVE(2, format->single), SILJUVATT_FIELD);
+    for (i = 0; i < format->bad_images; i++) {
+        bad_image(format->bad[i]);
+    }
+}
+
+static void orphans(const struct format *format)
+{
+    REFUSED(RECEIVE(0, format->later_middle), SILJUVATT_ORPHAN);
+    REFUSED(RECEIVE(0, format->end), SILJUVATT_ORPHAN);
+}
+
+/* A start is kept, the image has another number than awaited, and the stream is idle. */
+static void step(const struct format *format, struct image image)
+{
+    MADE(RECEIVE(0, format->start), KIND(SILJUVATT_KEPT));
+    MADE_IDLE(RECEIVE(0, image), SILJUVATT_STEP);
+    orphans(format);
+}
+
+static void receiving(const struct format *format)
+{
+    MADE(siljuvatt_station_new(STATION, format->number), 0);
+    READ_ONLY(RECEIVE(0, format->single), KIND(SILJUVATT_FILTERED));
+    MADE(OPEN(0, format->fields), 0);
+    images(format);
+    orphans(format);
+    step(format, format->later_middle);
+    step(format, format->later_end);
+    MADE(RECEIVE(0, format->start), KIND(SILJUVATT_KEPT));
+    images(format);
+    MADE(RECEIVE(0, format->end), KIND(SILJUVATT_PACKET) + 9);
+    images(format);
+    orphans(format);
+}
+
+/* The stream collects 2,048 bytes, the last of them in a middle; the image would pass that, and the stream is idle. */
+static void pass_limit(struct image image)
+{
+    static const uint8_t packet[SILJUVATT_EXTENDED_LIMIT];
+    struct image piece;
+    size_t k;
+
+    for (k = 0; k < 256; k++) {
+        piece.length = siljuvatt_write_piece(SILJUVATT_EXTENDED, extended.fields, extended.fields_length, packet,
+                                             sizeof packet, k, piece.bytes, sizeof piece.bytes);
+        if (k == 255) {
+            piece.bytes[3] = 0x3F;
+        }
+        MADE(RECEIVE(0, piece), KIND(SILJUVATT_KEPT));
+    }
+    MADE_IDLE(RECEIVE(0, image), SILJUVATT_LONG);
+    orphans(&extended);
+}
+
+/* Extended only. The number awaited after 256 pieces is 0. */
+static void too_long(void)
+{
+    static const struct image middle = {13, {0x88, 0x45, 0x00, 0x00, 0x10, 1, 2, 3, 4, 5, 6, 7, 8}};
+    static const struct image end = {6, {0x81, 0x45, 0x00, 0x80, 0x10, 9}};
+    const struct format *format = &extended;
+
     MADE(siljuvatt_station_new(STATION, SILJUVATT_EXTENDED), 0);
-    READ_ONLY(RECEIVE(0, single), KIND(SILJUVATT_FILTERED));
-    MADE(OPEN(0, fields), 0);
-    images();
-    REFUSED(RECEIVE(0, middle), SILJUVATT_ORPHAN);
-    REFUSED(RECEIVE(0, end), SILJUVATT_ORPHAN);
-    MADE(RECEIVE(0, start), KIND(SILJUVATT_KEPT));
-    images();
-    MADE(RECEIVE(0, end), KIND(SILJUVATT_PACKET) + 9);
-    images();
-    REFUSED(RECEIVE(0, middle), SILJUVATT_ORPHAN);
-    REFUSED(RECEIVE(0, end), SILJUVATT_ORPHAN);
+    MADE(OPEN(0, format->fields), 0);
+    pass_limit(middle);
+    pass_limit(end);
 }
 
-static void slots(void)
+static void slots(const struct format *format)
 {
     uint8_t other[SILJUVATT_EXTENDED_FIELDS] = {1, 6, 0, 0, 2};
     uint32_t i;
 
-    REFUSED(OPEN(2, fields), SILJUVATT_FIELD);
-    REFUSED(OPEN(0, wrong), SILJUVATT_FIELD);
-    REFUSED(OPEN(0, fields), SILJUVATT_TAKEN);
+    REFUSED(OPEN(2, format->fields), SILJUVATT_FIELD);
+    REFUSED(OPEN(0, format->wrong), SILJUVATT_FIELD);
+    REFUSED(OPEN(0, format->fields), SILJUVATT_TAKEN);
     REFUSED(siljuvatt_close(STATION, 1), SILJUVATT_CLOSED);
     REFUSED(siljuvatt_close(STATION, 16), SILJUVATT_CLOSED);
     REFUSED(siljuvatt_read(STATION, STORE, 1, &lent->start), SILJUVATT_CLOSED);
@@ -157,18 +297,39 @@ static void slots(void)
     }
     REFUSED(OPEN(1, other), SILJUVATT_FULL);
     REFUSED(siljuvatt_read(STATION, STORE, 1, &lent->start), SILJUVATT_NOPACKET);
-    REFUSED(siljuvatt_read(STATION, lent->store, 9, 0, &lent->start), SILJUVATT_STORE);
+    REFUSED(siljuvatt_read(STATION, store, 9, 0, &lent->start), SILJUVATT_STORE);
 }
 
-static void unsound(void)
+static void no_state(const struct format *format)
 {
-    REFUSED(siljuvatt_station_new(STATION, 2), SILJUVATT_FIELD);
-    REFUSED(siljuvatt_station_new(lent->station, 128, 0), SILJUVATT_STATE);
-    memset(lent->station, 0xFF, sizeof lent->station);
-    REFUSED(RECEIVE(0, single), SILJUVATT_STATE);
-    REFUSED(OPEN(0, fields), SILJUVATT_STATE);
+    REFUSED(RECEIVE(0, format->single), SILJUVATT_STATE);
+    REFUSED(OPEN(0, format->fields), SILJUVATT_STATE);
     REFUSED(siljuvatt_close(STATION, 0), SILJUVATT_STATE);
     REFUSED(siljuvatt_read(STATION, STORE, 0, &lent->start), SILJUVATT_STATE);
+}
+
+/* Records that are none, of the format and of no format. */
+static void unsound(const struct format *format)
+{
+    REFUSED(siljuvatt_station_new(STATION, 2), SILJUVATT_FIELD);
+    REFUSED(siljuvatt_station_new(lent->station, 128, format->number), SILJUVATT_STATE);
+    memset(lent->station, 0xFF, sizeof lent->station - 1);
+    no_state(format);
+    memset(lent->station, 0xFF, sizeof lent->station);
+    no_state(format);
+}
+
+static void stations(const struct format *format)
+{
+    int failed = failures;
+
+    splitting(format);
+    receiving(format);
+    slots(format);
+    unsound(format);
+    if (failures != failed) {
+        printf("these %d in the %s format\n", failures - failed, format->name);
+    }
 }
 
 #define MASTER lent->master, sizeof lent->master
@@ -206,24 +367,19 @@ static void watches(void)
 
 int main(void)
 {
-    size_t page = (size_t)sysconf(_SC_PAGESIZE);
     struct sigaction action;
 
     memset(&action, 0, sizeof action);
     action.sa_handler = stored;
     sigaction(SIGSEGV, &action, NULL);
     sigaction(SIGBUS, &action, NULL);
-    lent_size = (sizeof *lent + page - 1) / page * page;
-    lent = mmap(NULL, lent_size, PROT_READ | PROT_WRITE, MAP_PRIVATE | MAP_ANONYMOUS, -1, 0);
-    if (lent == MAP_FAILED) {
-        perror("mmap");
-        return 1;
-    }
-    READ_ONLY(store_a_byte(), UNWRITTEN);
-    splitting();
-    receiving();
-    slots();
-    unsound();
+    page = (size_t)sysconf(_SC_PAGESIZE);
+    lent = map(sizeof *lent);
+    store = map(SILJUVATT_STORE_SIZE);
+    protection();
+    stations(&extended);
+    stations(&standard);
+    too_long();
     masters();
     watches();
     printf("%d calls, %d failed\n", calls, failures);

@@ -297,8 +297,9 @@ impl Listing {
 
     // Ends the listing where no more comes than what is left of the input: writes what follows the
     // lines of the records over the head of the output, and answers its length. That is the line of
-    // a damaged record, if what is left is one or its beginning, and the count. Refuses with ROOM,
-    // and then writes nothing.
+    // a damaged record, if what is left begins with one or is the beginning of a record, and the
+    // count. Whole records that are left are not listed and don't stop the listing: list is the
+    // call for them. Refuses with ROOM, and then writes nothing.
     pub fn end(self, rest: &[u8], output: &mut [u8]) -> Outcome
         ensures { λ r. ⌜ outcome·meaning r ≡ answer (ending self (now (rest .entry)) (length (now (output .entry)))) ⌝ }
         ensures { λ _. ⌜ now (output .exit) ≡ over·after (ending self (now (rest .entry)) (length (now (output .entry)))) (now (output .entry)) ⌝ }

@@ -65,5 +65,5 @@ examples =
       unheard-16000 = λ last hl. ap (leb 16000) (since-elapsed last 16000 hl (omega arith));
       silences = (refl, refl, refl, refl, refl);
       heard = (refl, refl, refl);
-      checked = (refl, refl);
+      checked = (refl, refl, refl);
     }

@@ -50,6 +50,7 @@ pub record Examples : Type 0 where
   pub heard : (hearing (newWatch 5) 0 7 ≡ record { answer = value 0; watch = record { a = 7; b = 5 } })
       × (hearing (newWatch 5) 1 7 ≡ record { answer = value 1; watch = record { a = 5; b = 7 } })
       × (hearing (newWatch 5) 2 7 ≡ record { answer = refused 9; watch = newWatch 5 })
-  -- one of two buses is silent
+  -- one of two buses is silent, A or B; or both at one check
   pub checked : (checking (record { a = 0; b = 1 }) 16000 ≡ record { watch = record { a = 16000; b = 1 }; a = true; b = false })
       × (checking (record { a = 1; b = 0 }) 16000 ≡ record { watch = record { a = 1; b = 16000 }; a = false; b = true })
+      × (checking (record { a = 0; b = 1 }) 16001 ≡ record { watch = record { a = 16001; b = 16001 }; a = true; b = true })
