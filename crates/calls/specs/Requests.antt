@@ -1,10 +1,10 @@
 -- compare/PROTOCOL.md: what stands where in the arguments of a request. "Numbers of more than one byte have their high byte first." A byte
 -- past the end is 0, which no request has (Operations).
-use Prim.Native.Nat.{ℕ, _+_, _-_, _*_}
+use Prim.Native.Nat.{ℕ, _+_, _-_, _*_, _%_}
 use mathlib.Core.Bool.{cond}
 use mathlib.Core.List.{List, [], _∷_}
 use lib.Dec.{eqb, leb}
-use lib.ListN.{length, take, drop, getD}
+use lib.ListN.{length, take, drop, getD, set, replicate}
 use Rattle.format.specs.declared.Format.{Format}
 use Rattle.format.specs.declared.Format.the-variants.{Extended, Standard}
 use Rattle.format.specs.declared.Fields.{Fields}
@@ -14,7 +14,13 @@ use Rattle.format.specs.declared.Refusal.the-variants as refusal
 use Rattle.frame.specs.Layout.{flagOf}
 use Rattle.master.specs.declared.Kind.{Kind}
 use Rattle.master.specs.declared.Kind.the-variants.{Poll, DataBlock, Command}
+use Rattle.master.specs.declared.Activity.{Activity}
+use Rattle.master.specs.declared.Activity.the-variants as activity
+use Rattle.master.specs.declared.Master.{Master}
 use Rattle.slot.specs.declared.Key.{Key}
+use Rattle.slot.specs.declared.Slot.{Slot}
+use Rattle.slot.specs.Slots.{closedSlot, openSlot}
+use Rattle.stream.specs.declared.Progress.the-variants as progress
 use Rattle.stream.specs.declared.Answer.{Answer}
 use Rattle.stream.specs.declared.Answer.the-variants as answer
 use Rattle.trace.specs.declared.Line.{Line}
@@ -57,6 +63,23 @@ keyAt args at = record { bus = byteAt args at; fields = fieldsAt args (at + 2) (
 -- "A kind of exchange is 1 poll, 2 data block, 3 command"
 unfoldable pub kindNamed : ℕ → Kind
 kindNamed code = cond (eqb code 1) Poll (cond (eqb code 2) DataBlock Command)
+
+-- EXCHANGE: "the master becomes one with A chosen for every node but the first, which has that bus, and that exchange, or none with kind 0"
+unfoldable pub activityNamed : (kind node sends : ℕ) → Activity
+activityNamed kind node sends =
+    cond (eqb kind 0) activity.Idle (activity.UnderWay (record { kind = kindNamed kind; node = node; sends = sends }))
+
+unfoldable pub masterIn : List ℕ → Master
+masterIn args =
+    record {
+      chosen = set (replicate 64 0) (byteAt args 0 % 64) (byteAt args 1);
+      activity = activityNamed (byteAt args 2) (byteAt args 3) (byteAt args 4);
+    }
+
+-- SLOT: "slot number 0 to 15, kind 0 to 3, h (2 bytes), bus, format, 5 fields"
+unfoldable pub slotNamed : (kind h : ℕ) → Key → Slot
+slotNamed kind h key =
+    cond (eqb kind 0) closedSlot (openSlot key (cond (eqb kind 1) progress.Idle (cond (eqb kind 2) (progress.Collecting h) (progress.Done h))))
 
 -- "a refusal's place in document 01's table, 1 to 21"; of a line "one that is not 1 to 20 is read as 21", and so is 0
 abbrev pub refusalTable : List Refusal

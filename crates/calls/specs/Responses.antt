@@ -11,6 +11,15 @@ use Rattle.format.specs.Refusals.{Result, value, refused}
 use Rattle.stream.specs.declared.Progress.{Progress}
 use Rattle.stream.specs.declared.Progress.the-variants.{Idle, Collecting, Done}
 use Rattle.stream.specs.Answers.{Reply, packet, kept, filtered}
+use Rattle.trace.specs.Records.{Found, whole, damaged, cut, none}
+use Rattle.lister.specs.Listing.{Reason, input, room, damage}
+use Rattle.master.specs.declared.Kind.{Kind}
+use Rattle.master.specs.declared.Kind.the-variants.{Poll, DataBlock, Command}
+use Rattle.master.specs.declared.Activity.{Activity}
+use Rattle.master.specs.declared.Activity.the-variants as activity
+use Rattle.master.specs.declared.Master.{Master}
+use Rattle.master.specs.Exchanges.{Told, send, done, gaveUp}
+use Rattle.watch.specs.declared.Watch.{Watch}
 use Rattle.slot.specs.declared.Occupancy.{Occupancy}
 use Rattle.slot.specs.declared.Occupancy.the-variants.{Closed, Open}
 use Rattle.slot.specs.declared.Slot.{Slot}
@@ -66,3 +75,46 @@ occupancyBytes (Open stream) = progressBytes (stream .progress) (stream .key .bu
 unfoldable pub withSlots : List ℕ → (at : ℕ) → List Slot → List ℕ
 withSlots out at [] = out
 withSlots out at (slot ∷ slots) = withSlots (copied out at (occupancyBytes (slot .occupancy))) (at + 10) slots
+
+-- 6 send: the bus. 7 done. 8 gave up
+abbrev pub toldBytes : Result Told → List ℕ
+toldBytes (value (send bus)) = answerBytes 6 bus 0
+toldBytes (value done) = answerBytes 7 0 0
+toldBytes (value gaveUp) = answerBytes 8 0 0
+toldBytes (refused n) = answerBytes 4 n 0
+
+-- 9 a record: its size, the bus. 10 the record is damaged. 11 the bytes end inside a record. 12 there are no bytes
+abbrev pub foundBytes : Found → List ℕ
+foundBytes (whole bus image size) = answerBytes 9 size bus
+foundBytes damaged = answerBytes 10 0 0
+foundBytes cut = answerBytes 11 0 0
+foundBytes none = answerBytes 12 0 0
+
+-- 13 what is left of the input is no whole record. 14 the output might not have room for the next line
+abbrev pub reasonBytes : Result Reason → List ℕ
+reasonBytes (value input) = answerBytes 13 0 0
+reasonBytes (value room) = answerBytes 14 0 0
+reasonBytes (value damage) = answerBytes 10 0 0
+reasonBytes (refused n) = answerBytes 4 n 0
+
+-- "A kind of exchange is 1 poll, 2 data block, 3 command, 0 none. A master is the kind of its exchange, its node and its sends (0 and 0 if
+-- there is none), and the 64 chosen buses. A watch is the last times of A and B, 4 bytes each."
+abbrev pub kindByte : Kind → ℕ
+kindByte Poll = 1
+kindByte DataBlock = 2
+kindByte Command = 3
+
+abbrev pub activityBytes : Activity → List ℕ
+activityBytes activity.Idle = 0 ∷ 0 ∷ 0 ∷ []
+activityBytes (activity.UnderWay exchange) = kindByte (exchange .kind) ∷ exchange .node ∷ exchange .sends ∷ []
+
+-- an output with a master, a watch written after the answer
+unfoldable pub withMaster : List ℕ → Master → List ℕ
+withMaster out master = copied (copied out 4 (activityBytes (master .activity))) 7 (master .chosen)
+
+unfoldable pub withWatch : List ℕ → Watch → List ℕ
+withWatch out watch = copied (copied out 4 (number4Bytes (watch .a))) 8 (number4Bytes (watch .b))
+
+-- 1 if A is to be reset, and 2 more if B is
+unfoldable pub resetsOf : (a b : Bool) → ℕ
+resetsOf a b = cond a 1 0 + cond b 2 0
