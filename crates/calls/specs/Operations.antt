@@ -6,7 +6,13 @@ use mathlib.Core.List.{List, [], _∷_}
 use lib.Dec.{eqb, leb}
 use lib.ListN.{length}
 use Rattle.format.specs.Tests.{allTrue}
-use Rattle.calls.specs.Requests.{byteAt, number2At}
+use Rattle.master.specs.declared.Master.{Master}
+use Rattle.master.specs.Masters.{newMaster}
+use Rattle.master.specs.Exchanges.{MasterAfter, starting, replying, timingOut}
+use Rattle.watch.specs.declared.Watch.{Watch}
+use Rattle.watch.specs.Watching.{newWatch, hearing, checking}
+use Rattle.calls.specs.Requests.{byteAt, number2At, number4At, kindNamed, masterIn}
+use Rattle.calls.specs.Responses.{answerBytes, outcomeBytes, toldBytes, resetsOf}
 
 -- operations, and what their requests have to meet
 pub data Rule : Type 0 where
@@ -76,3 +82,40 @@ otherArgs operation args =
 
 unfoldable pub isRequest : ℕ → List ℕ → Bool
 isRequest operation args = allTrue (argsFit operation (length args) ∷ stationArgs operation args (otherArgs operation args) ∷ [])
+
+-- of a request: an operation byte, and its arguments
+abbrev pub isWhole : List ℕ → Bool
+isWhole [] = false
+isWhole (operation ∷ args) = isRequest operation args
+
+-- 23 MASTER, 24 EXCHANGE, 25 START, 26 REPLY, 27 TIMEOUT: the answer's bytes, and what the master becomes
+pub record MasterDone : Type 0 where
+  pub answer : List ℕ
+  pub master : Master
+
+abbrev pub asCalled : MasterAfter → MasterDone
+asCalled after = record { answer = toldBytes (after .answer); master = after .master }
+
+abbrev pub asSet : Master → MasterDone
+asSet master = record { answer = answerBytes 5 0 0; master = master }
+
+unfoldable pub masterDone : ℕ → List ℕ → Master → MasterDone
+masterDone operation args master =
+    cond (eqb operation 23) (asSet newMaster)
+    (cond (eqb operation 24) (asSet (masterIn args))
+    (cond (eqb operation 25) (asCalled (starting master (kindNamed (byteAt args 0)) (byteAt args 1)))
+    (cond (eqb operation 26) (asCalled (replying master (byteAt args 0) (byteAt args 1) (byteAt args 2)))
+    (asCalled (timingOut master)))))
+
+-- 28 WATCH, 29 HEARD, 30 CHECK, in the same way
+pub record WatchDone : Type 0 where
+  pub answer : List ℕ
+  pub watch : Watch
+
+unfoldable pub watchDone : ℕ → List ℕ → Watch → WatchDone
+watchDone operation args watch =
+    let heard = hearing watch (byteAt args 0) (number4At args 1) in
+    let checked = checking watch (number4At args 0) in
+    cond (eqb operation 28) (record { answer = answerBytes 5 0 0; watch = newWatch (number4At args 0) })
+    (cond (eqb operation 29) (record { answer = outcomeBytes (heard .answer); watch = heard .watch })
+    (record { answer = answerBytes 5 (resetsOf (checked .a) (checked .b)) 0; watch = checked .watch }))

@@ -20,6 +20,8 @@ ghost use mathlib.Core.Path.{_≡_};
 ghost use Rattle.master.specs.Masters.{newMaster};
 ghost use Rattle.station.specs.Stations.{newStation};
 ghost use Rattle.watch.specs.Watching.{newWatch};
+ghost use mathlib.Core.Bool.{false};
+ghost use Rattle.calls.specs.Operations.{isWhole};
 
 pub struct Bench {
     pub desk: Desk,
@@ -113,7 +115,9 @@ fn change_other(bench: Bench, operation: u8, args: &[u8], out: &mut [u8]) -> Don
 
 // Does what a request asks for, and writes the response. One that is none leaves all as it is, and
 // its response is empty.
-pub fn respond(bench: Bench, bytes: &mut [u8], request: &[u8], out: &mut [u8]) -> Done {
+pub fn respond(bench: Bench, bytes: &mut [u8], request: &[u8], out: &mut [u8]) -> Done
+    ensures { λ r. ⌜ (isWhole (now (request .entry)) ≡ false → (r ≡ record { bench = bench; size = 0 }) × (now (bytes .exit) ≡ now (bytes .entry)) × (now (out .exit) ≡ now (out .entry))) ⌝ }
+{
     if request.len() < 1 {
         return kept(bench, 0);
     }

@@ -43,6 +43,7 @@ ghost use Rattle.trace.specs.Records.{recordAt};
 ghost use Rattle.filter.specs.Filters as filters;
 ghost use Rattle.calls.specs.Requests.{byteAt, number8At, formatNamed, refusalNamed};
 ghost use Rattle.calls.specs.Responses.{answerBytes, outcomeBytes, foundBytes};
+ghost use mathlib.Core.Bool.{cond};
 
 fn count(args: &[u8], out: &mut [u8]) -> usize
     ensures { λ r. ⌜ r ≡ 4 ⌝ }
@@ -97,7 +98,9 @@ fn refusal(args: &[u8], out: &mut [u8]) -> usize
 }
 
 // What a pair accepts, or the first of its filters alone.
-fn accepts(pair: Pair, alone: bool, id: u16) -> bool {
+fn accepts(pair: Pair, alone: bool, id: u16) -> bool
+    ensures { λ r. ⌜ r ≡ cond alone (filters.accepts (pair .first) id) (filters.eitherAccepts pair id) ⌝ }
+{
     if alone {
         let filter = pair.first;
         return filter.accepts(id);

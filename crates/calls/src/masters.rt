@@ -20,6 +20,7 @@ ghost use Rattle.copying.specs.Copy.{copied};
 ghost use Rattle.master.specs.Exchanges as exchanges;
 ghost use Rattle.calls.specs.Requests.{activityNamed, masterIn};
 ghost use Rattle.calls.specs.Responses.{answerBytes, toldBytes, kindByte, activityBytes, withMaster};
+ghost use Rattle.calls.specs.Operations.{masterDone};
 
 // Where the chosen buses stand in a response, after the answer and the exchange.
 const CHOSEN: usize = 7;
@@ -137,7 +138,10 @@ fn by_hand(args: &[u8]) -> Master
 }
 
 // Does what a request on a master asks for, and writes the response.
-pub fn respond(master: Master, operation: u8, args: &[u8], out: &mut [u8]) -> Done {
+pub fn respond(master: Master, operation: u8, args: &[u8], out: &mut [u8]) -> Done
+    ensures { λ r. ⌜ r ≡ record { master = masterDone operation (now (args .entry)) master .master; size = 71 } ⌝ }
+    ensures { λ _. ⌜ now (out .exit) ≡ withMaster (copied (now (out .entry)) 0 (masterDone operation (now (args .entry)) master .answer)) (masterDone operation (now (args .entry)) master .master) ⌝ }
+{
     let first = byte(args, 0);
     let second = byte(args, 1);
     match operation {

@@ -43,6 +43,9 @@ ghost use Rattle.station.specs.Receive as receiving;
 ghost use Rattle.format.specs.Refusals.{meaning};
 ghost use Rattle.calls.specs.Requests.{byteAt, number2At, keyAt, slotNamed, bytesBetween};
 ghost use Rattle.calls.specs.Responses.{answerBytes, outcomeBytes, withSlots};
+ghost use lib.ListN.{length, set, replicate};
+ghost use Rattle.station.specs.Read as reading;
+ghost use Rattle.calls.specs.Requests.{formatNamed};
 
 // The station; how much of the bytes is lent to its calls as their store; the front that receives: 0
 // the station itself, 1 a lent table of its slots; and how many records a listing in its slots has
@@ -105,7 +108,11 @@ fn put_changed(desk: Desk, made: Changed, out: &mut [u8]) -> Done
     changed(desk, next, out)
 }
 
-fn renew(desk: Desk, bytes: &mut [u8], args: &[u8], out: &mut [u8]) -> Done {
+fn renew(desk: Desk, bytes: &mut [u8], args: &[u8], out: &mut [u8]) -> Done
+    ensures { λ r. ⌜ r ≡ record { desk = record { station = newStation (formatNamed (byteAt (now (args .entry)) 0)); lent = 32768; front = 0; count = desk .count }; size = 164 } ⌝ }
+    ensures { λ _. ⌜ now (bytes .exit) ≡ replicate (length (now (bytes .entry))) 0 ⌝ }
+    ensures { λ _. ⌜ now (out .exit) ≡ withSlots (copied (now (out .entry)) 0 (answerBytes 5 0 0)) 4 (newStation (formatNamed (byteAt (now (args .entry)) 0)) .slots) ⌝ }
+{
     fill(bytes, 0, 0);
     put_value(out, 0);
     let next = new(format_of(byte(args, 0)), desk.count);
@@ -232,7 +239,9 @@ fn set_front(desk: Desk, args: &[u8], out: &mut [u8]) -> Done
 }
 
 // Both calls: the length, and the part itself.
-fn read(desk: Desk, bytes: &[u8], args: &[u8], out: &mut [u8]) -> usize {
+fn read(desk: Desk, bytes: &[u8], args: &[u8], out: &mut [u8]) -> usize
+    ensures { λ _. ⌜ now (out .exit) ≡ copied (copied (now (out .entry)) 0 (outcomeBytes (reading.lengthOf (reading.reading (desk .station) (bytesBetween (now (bytes .entry)) 0 (desk .lent)) (byteAt (now (args .entry)) 0))))) 4 (reading.partOf (reading.reading (desk .station) (bytesBetween (now (bytes .entry)) 0 (desk .lent)) (byteAt (now (args .entry)) 0))) ⌝ }
+{
     let i = byte(args, 0) as usize;
     let station = desk.station;
     let store = part(bytes, 0, desk.lent);

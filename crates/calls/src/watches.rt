@@ -12,6 +12,7 @@ ghost use Rattle.copying.specs.Copy.{copied};
 ghost use Rattle.watch.specs.Watching.{newWatch, hearing, checking};
 ghost use Rattle.calls.specs.Requests.{byteAt, number4At};
 ghost use Rattle.calls.specs.Responses.{answerBytes, outcomeBytes, withWatch, resetsOf};
+ghost use Rattle.calls.specs.Operations.{watchDone};
 
 // The size of an answer with the last times.
 const WITH_TIMES: usize = 12;
@@ -81,7 +82,10 @@ fn check(watch: Watch, args: &[u8], out: &mut [u8]) -> Done
 }
 
 // Does what a request on a watch asks for, and writes the response.
-pub fn respond(watch: Watch, operation: u8, args: &[u8], out: &mut [u8]) -> Done {
+pub fn respond(watch: Watch, operation: u8, args: &[u8], out: &mut [u8]) -> Done
+    ensures { λ r. ⌜ r ≡ record { watch = watchDone operation (now (args .entry)) watch .watch; size = 12 } ⌝ }
+    ensures { λ _. ⌜ now (out .exit) ≡ withWatch (copied (now (out .entry)) 0 (watchDone operation (now (args .entry)) watch .answer)) (watchDone operation (now (args .entry)) watch .watch) ⌝ }
+{
     match operation {
         WATCH => renew(args, out),
         HEARD => hear(watch, args, out),
