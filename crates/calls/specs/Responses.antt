@@ -1,5 +1,5 @@
 -- compare/PROTOCOL.md: the bytes of a response. "Numbers of more than one byte have their high byte first."
-use Prim.Native.Nat.{ℕ, _+_, _/_, _%_}
+use Prim.Native.Nat.{ℕ, zero, suc, _+_, _/_, _%_}
 use mathlib.Core.Bool.{Bool, cond}
 use mathlib.Core.List.{List, [], _∷_, _++_}
 use lib.Dec.{ltb}
@@ -36,6 +36,11 @@ number4Bytes n = n / 16777216 ∷ n / 65536 % 256 ∷ n / 256 % 256 ∷ n % 256 
 
 unfoldable pub number8Bytes : ℕ → List ℕ
 number8Bytes n = number4Bytes (n / 4294967296) ++ number4Bytes (n % 4294967296)
+
+-- FILL: "byte i of the 40,000 becomes (seed + i × step) modulo 256"
+unfoldable pub stepped : (n first step : ℕ) → List ℕ
+stepped zero first step = []
+stepped (suc n) first step = first ∷ stepped n ((first + step) % 256) step
 
 -- "An answer is four bytes: its kind, a two-byte number, and one byte more"
 unfoldable pub answerBytes : (kind n more : ℕ) → List ℕ

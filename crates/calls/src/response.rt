@@ -28,6 +28,7 @@ pub const WITH_SLOTS: usize = 164;
 // Each byte is a step more than the one before it, modulo 256.
 pub fn fill(bytes: &mut [u8], first: u8, step: u8)
     ensures { λ _. ⌜ (step ≡ 0 → now (bytes .exit) ≡ replicate (length (now (bytes .entry))) first) ⌝ }
+    ensures { λ _. ⌜ now (bytes .exit) ≡ responses.stepped (length (now (bytes .entry))) first step ⌝ }
 {
     let mut next = first;
     let mut i = 0;

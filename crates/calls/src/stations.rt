@@ -42,7 +42,7 @@ ghost use Rattle.station.specs.Open as opening;
 ghost use Rattle.station.specs.Receive as receiving;
 ghost use Rattle.format.specs.Refusals.{meaning};
 ghost use Rattle.calls.specs.Requests.{byteAt, number2At, keyAt, slotNamed, bytesBetween};
-ghost use Rattle.calls.specs.Responses.{answerBytes, outcomeBytes, withSlots};
+ghost use Rattle.calls.specs.Responses.{answerBytes, outcomeBytes, stepped, withSlots};
 ghost use lib.ListN.{length, set, replicate};
 ghost use Rattle.station.specs.Read as reading;
 ghost use Rattle.calls.specs.Requests.{formatNamed};
@@ -262,7 +262,11 @@ fn stored(bytes: &[u8], args: &[u8], out: &mut [u8]) -> usize
     size
 }
 
-fn refill(bytes: &mut [u8], args: &[u8], out: &mut [u8]) -> usize {
+fn refill(bytes: &mut [u8], args: &[u8], out: &mut [u8]) -> usize
+    ensures { λ r. ⌜ r ≡ 4 ⌝ }
+    ensures { λ _. ⌜ now (bytes .exit) ≡ stepped (length (now (bytes .entry))) (byteAt (now (args .entry)) 0) (byteAt (now (args .entry)) 1) ⌝ }
+    ensures { λ _. ⌜ now (out .exit) ≡ copied (now (out .entry)) 0 (answerBytes 5 0 0) ⌝ }
+{
     fill(bytes, byte(args, 0), byte(args, 1));
     put_value(out, 0);
     ANSWER
