@@ -16,6 +16,12 @@ use crate::watches;
 use format::Format;
 use master::Master;
 use watch::Watch;
+ghost use mathlib.Core.Path.{_≡_};
+ghost use Rattle.master.specs.Masters.{newMaster};
+ghost use Rattle.station.specs.Stations.{newStation};
+ghost use Rattle.watch.specs.Watching.{newWatch};
+ghost use mathlib.Core.Bool.{false};
+ghost use Rattle.calls.specs.Operations.{isWhole};
 
 pub struct Bench {
     pub desk: Desk,
@@ -29,7 +35,9 @@ pub struct Done {
     pub size: usize,
 }
 
-pub fn new() -> Bench {
+pub fn new() -> Bench
+    ensures { λ r. ⌜ r ≡ record { desk = record { station = newStation Format.Extended; lent = 32768; front = 0; count = 0 }; master = newMaster; watch = newWatch 0 } ⌝ }
+{
     let desk = stations::new(Format::Extended, 0);
     let master = Master::new();
     let watch = Watch::new(0);
@@ -40,28 +48,36 @@ pub fn new() -> Bench {
     }
 }
 
-fn kept(bench: Bench, size: usize) -> Done {
+fn kept(bench: Bench, size: usize) -> Done
+    ensures { λ r. ⌜ r ≡ record { bench = bench; size = size } ⌝ }
+{
     Done {
         bench: bench,
         size: size,
     }
 }
 
-fn with_desk(bench: Bench, done: stations::Done) -> Done {
+fn with_desk(bench: Bench, done: stations::Done) -> Done
+    ensures { λ r. ⌜ r ≡ record { bench = record { desk = done .desk; master = bench .master; watch = bench .watch }; size = done .size } ⌝ }
+{
     let desk = done.desk;
     let mut next = bench;
     next.desk = desk;
     kept(next, done.size)
 }
 
-fn with_master(bench: Bench, done: masters::Done) -> Done {
+fn with_master(bench: Bench, done: masters::Done) -> Done
+    ensures { λ r. ⌜ r ≡ record { bench = record { desk = bench .desk; master = done .master; watch = bench .watch }; size = done .size } ⌝ }
+{
     let master = done.master;
     let mut next = bench;
     next.master = master;
     kept(next, done.size)
 }
 
-fn with_watch(bench: Bench, done: watches::Done) -> Done {
+fn with_watch(bench: Bench, done: watches::Done) -> Done
+    ensures { λ r. ⌜ r ≡ record { bench = record { desk = bench .desk; master = bench .master; watch = done .watch }; size = done .size } ⌝ }
+{
     let watch = done.watch;
     let mut next = bench;
     next.watch = watch;
@@ -99,7 +115,9 @@ fn change_other(bench: Bench, operation: u8, args: &[u8], out: &mut [u8]) -> Don
 
 // Does what a request asks for, and writes the response. One that is none leaves all as it is, and
 // its response is empty.
-pub fn respond(bench: Bench, bytes: &mut [u8], request: &[u8], out: &mut [u8]) -> Done {
+pub fn respond(bench: Bench, bytes: &mut [u8], request: &[u8], out: &mut [u8]) -> Done
+    ensures { λ r. ⌜ (isWhole (now (request .entry)) ≡ false → (r ≡ record { bench = bench; size = 0 }) × (now (bytes .exit) ≡ now (bytes .entry)) × (now (out .exit) ≡ now (out .entry))) ⌝ }
+{
     if request.len() < 1 {
         return kept(bench, 0);
     }

@@ -36,8 +36,19 @@ ghost use lib.ListN.{length, replicate};
 ghost use Rattle.format.specs.Refusals.{meaning};
 ghost use Rattle.packet.specs.Send.{answer, outputAfter};
 ghost use Rattle.trace.specs.Lines.{writing};
+ghost use Rattle.copying.specs.Copy.{copied};
+ghost use Rattle.format.specs.Refusals as refusals;
+ghost use Rattle.packet.specs.Send.{pieceCount};
+ghost use Rattle.trace.specs.Records.{recordAt};
+ghost use Rattle.filter.specs.Filters as filters;
+ghost use Rattle.calls.specs.Requests.{byteAt, number8At, formatNamed, refusalNamed};
+ghost use Rattle.calls.specs.Responses.{answerBytes, outcomeBytes, foundBytes};
+ghost use mathlib.Core.Bool.{cond};
 
-fn count(args: &[u8], out: &mut [u8]) -> usize {
+fn count(args: &[u8], out: &mut [u8]) -> usize
+    ensures { λ r. ⌜ r ≡ 4 ⌝ }
+    ensures { λ _. ⌜ now (out .exit) ≡ copied (now (out .entry)) 0 (outcomeBytes (pieceCount (formatNamed (byteAt (now (args .entry)) 0)) (number8At (now (args .entry)) 1))) ⌝ }
+{
     let format = format_of(byte(args, 0));
     put_outcome(out, packet::piece_count(format, long(args, 1) as usize));
     ANSWER
@@ -78,13 +89,18 @@ fn judge(args: &[u8], out: &mut [u8]) -> usize {
     }
 }
 
-fn refusal(args: &[u8], out: &mut [u8]) -> usize {
+fn refusal(args: &[u8], out: &mut [u8]) -> usize
+    ensures { λ r. ⌜ r ≡ 4 ⌝ }
+    ensures { λ _. ⌜ now (out .exit) ≡ copied (now (out .entry)) 0 (answerBytes 4 (refusals.number (refusalNamed (byteAt (now (args .entry)) 0))) 0) ⌝ }
+{
     put_refused(out, refusal_of(byte(args, 0)));
     ANSWER
 }
 
 // What a pair accepts, or the first of its filters alone.
-fn accepts(pair: Pair, alone: bool, id: u16) -> bool {
+fn accepts(pair: Pair, alone: bool, id: u16) -> bool
+    ensures { λ r. ⌜ r ≡ cond alone (filters.accepts (pair .first) id) (filters.eitherAccepts pair id) ⌝ }
+{
     if alone {
         let filter = pair.first;
         return filter.accepts(id);
@@ -132,7 +148,10 @@ fn row(args: &[u8], out: &mut [u8]) -> usize {
     put_accepted(out, Pair::from_row(row), false, args, 8)
 }
 
-fn record(args: &[u8], out: &mut [u8]) -> usize {
+fn record(args: &[u8], out: &mut [u8]) -> usize
+    ensures { λ r. ⌜ r ≡ 4 ⌝ }
+    ensures { λ _. ⌜ now (out .exit) ≡ copied (now (out .entry)) 0 (foundBytes (recordAt (now (args .entry)))) ⌝ }
+{
     match trace::read_record(args) {
         Entry::Record { bus, size } => put_answer(out, 9, size, bus),
         Entry::Damaged => put_answer(out, 10, 0, 0),

@@ -27,6 +27,9 @@ ghost use lib.ListN.{length, replicate};
 ghost use Rattle.format.specs.Refusals.{meaning};
 ghost use Rattle.packet.specs.Send.{answer, outputAfter};
 ghost use Rattle.lister.specs.Listing.{listing, listingAfter, ending};
+ghost use Rattle.copying.specs.Copy.{copied};
+ghost use Rattle.lister.specs.Listing as listings;
+ghost use Rattle.calls.specs.Responses.{answerBytes, number2Bytes, number8Bytes, reasonBytes};
 
 // The size of an answer with the count.
 const WITH_COUNT: usize = 12;
@@ -59,7 +62,10 @@ fn listing_of(desk: Desk) -> Listing
 }
 
 // A new listing, or one by hand with that count.
-fn set(desk: Desk, listing: Listing, out: &mut [u8]) -> Done {
+fn set(desk: Desk, listing: Listing, out: &mut [u8]) -> Done
+    ensures { λ r. ⌜ r ≡ record { desk = record { station = record { format = desk .station .format; slots = listing .slots }; lent = desk .lent; front = desk .front; count = listing .count }; size = 12 } ⌝ }
+    ensures { λ _. ⌜ now (out .exit) ≡ copied (copied (now (out .entry)) 0 (answerBytes 5 0 0)) 4 (number8Bytes (listing .count)) ⌝ }
+{
     put_value(out, 0);
     put_long(out, 4, listing.count);
     kept(with_listing(desk, listing), WITH_COUNT)
@@ -71,7 +77,9 @@ fn count(desk: Desk, args: &[u8], out: &mut [u8]) -> Done {
     set(desk, listing, out)
 }
 
-fn put_why(out: &mut [u8], why: Why) {
+fn put_why(out: &mut [u8], why: Why)
+    ensures { λ _. ⌜ now (out .exit) ≡ copied (now (out .entry)) 0 (reasonBytes (listings.meaning why)) ⌝ }
+{
     match why {
         Why::Input => put_answer(out, 13, 0, 0),
         Why::Room => put_answer(out, 14, 0, 0),
@@ -81,7 +89,9 @@ fn put_why(out: &mut [u8], why: Why) {
 }
 
 // Why the call went no further, and how far it came.
-fn put_listed(out: &mut [u8], listed: Listed) {
+fn put_listed(out: &mut [u8], listed: Listed)
+    ensures { λ _. ⌜ now (out .exit) ≡ copied (copied (copied (copied (now (out .entry)) 0 (reasonBytes (listings.meaning (listed .why)))) 4 (number8Bytes (listed .listing .count))) 12 (number2Bytes (listed .used))) 14 (number2Bytes (listed .written)) ⌝ }
+{
     let why = listed.why;
     let next = listed.listing;
     put_why(out, why);

@@ -14,6 +14,13 @@ use master::Exchange;
 use master::Kind;
 use master::Master;
 use master::Moved;
+ghost use mathlib.Core.Path.{_≡_};
+ghost use mathlib.Core.List.{[], _∷_};
+ghost use Rattle.copying.specs.Copy.{copied};
+ghost use Rattle.master.specs.Exchanges as exchanges;
+ghost use Rattle.calls.specs.Requests.{activityNamed, masterIn};
+ghost use Rattle.calls.specs.Responses.{answerBytes, toldBytes, kindByte, activityBytes, withMaster};
+ghost use Rattle.calls.specs.Operations.{masterDone};
 
 // Where the chosen buses stand in a response, after the answer and the exchange.
 const CHOSEN: usize = 7;
@@ -27,7 +34,9 @@ pub struct Done {
     pub size: usize,
 }
 
-fn kind_code(kind: Kind) -> u8 {
+fn kind_code(kind: Kind) -> u8
+    ensures { λ r. ⌜ r ≡ kindByte kind ⌝ }
+{
     match kind {
         Kind::Poll => 1,
         Kind::DataBlock => 2,
@@ -35,12 +44,16 @@ fn kind_code(kind: Kind) -> u8 {
     }
 }
 
-fn put_exchange(out: &mut [u8], kind: u8, node: u8, sends: u8) {
+fn put_exchange(out: &mut [u8], kind: u8, node: u8, sends: u8)
+    ensures { λ _. ⌜ now (out .exit) ≡ copied (now (out .entry)) 4 (kind ∷ node ∷ sends ∷ []) ⌝ }
+{
     let bytes = [kind, node, sends];
     copying::copy_in(out, 4, &bytes);
 }
 
-fn put_activity(out: &mut [u8], activity: Activity) {
+fn put_activity(out: &mut [u8], activity: Activity)
+    ensures { λ _. ⌜ now (out .exit) ≡ copied (now (out .entry)) 4 (activityBytes activity) ⌝ }
+{
     match activity {
         Activity::Idle => put_exchange(out, 0, 0, 0),
         Activity::UnderWay(exchange) => {
@@ -51,7 +64,10 @@ fn put_activity(out: &mut [u8], activity: Activity) {
 }
 
 // The response to a call: the answer, which is written already, and the master.
-fn changed(master: Master, out: &mut [u8]) -> Done {
+fn changed(master: Master, out: &mut [u8]) -> Done
+    ensures { λ r. ⌜ r ≡ record { master = master; size = 71 } ⌝ }
+    ensures { λ _. ⌜ now (out .exit) ≡ withMaster (now (out .entry)) master ⌝ }
+{
     let chosen = master.chosen;
     let activity = master.activity;
     put_activity(out, activity);
@@ -62,7 +78,9 @@ fn changed(master: Master, out: &mut [u8]) -> Done {
     }
 }
 
-fn put_moved(out: &mut [u8], answer: Answer) {
+fn put_moved(out: &mut [u8], answer: Answer)
+    ensures { λ _. ⌜ now (out .exit) ≡ copied (now (out .entry)) 0 (toldBytes (exchanges.meaning answer)) ⌝ }
+{
     match answer {
         Answer::Send(bus) => put_answer(out, 6, bus as usize, 0),
         Answer::Done => put_answer(out, 7, 0, 0),
@@ -72,7 +90,10 @@ fn put_moved(out: &mut [u8], answer: Answer) {
 }
 
 // What a call answers and hands back.
-fn moved(moved: Moved, out: &mut [u8]) -> Done {
+fn moved(moved: Moved, out: &mut [u8]) -> Done
+    ensures { λ r. ⌜ r ≡ record { master = moved .master; size = 71 } ⌝ }
+    ensures { λ _. ⌜ now (out .exit) ≡ withMaster (copied (now (out .entry)) 0 (toldBytes (exchanges.meaning (moved .answer)))) (moved .master) ⌝ }
+{
     let answer = moved.answer;
     let next = moved.master;
     put_moved(out, answer);
@@ -80,12 +101,17 @@ fn moved(moved: Moved, out: &mut [u8]) -> Done {
 }
 
 // A master that no call has moved: a new one, or one by hand.
-fn set(master: Master, out: &mut [u8]) -> Done {
+fn set(master: Master, out: &mut [u8]) -> Done
+    ensures { λ r. ⌜ r ≡ record { master = master; size = 71 } ⌝ }
+    ensures { λ _. ⌜ now (out .exit) ≡ withMaster (copied (now (out .entry)) 0 (answerBytes 5 0 0)) master ⌝ }
+{
     put_value(out, 0);
     changed(master, out)
 }
 
-fn activity_of(kind: u8, node: u8, sends: u8) -> Activity {
+fn activity_of(kind: u8, node: u8, sends: u8) -> Activity
+    ensures { λ r. ⌜ r ≡ activityNamed kind node sends ⌝ }
+{
     if kind == 0 {
         return Activity::Idle;
     }
@@ -98,7 +124,9 @@ fn activity_of(kind: u8, node: u8, sends: u8) -> Activity {
 }
 
 // A master by hand: A chosen for every node but one, and an exchange or none.
-fn by_hand(args: &[u8]) -> Master {
+fn by_hand(args: &[u8]) -> Master
+    ensures { λ r. ⌜ r ≡ masterIn (now (args .entry)) ⌝ }
+{
     let node = (byte(args, 0) % 64) as usize;
     let mut chosen = [0u8; 64];
     chosen[node] = byte(args, 1);
@@ -110,7 +138,10 @@ fn by_hand(args: &[u8]) -> Master {
 }
 
 // Does what a request on a master asks for, and writes the response.
-pub fn respond(master: Master, operation: u8, args: &[u8], out: &mut [u8]) -> Done {
+pub fn respond(master: Master, operation: u8, args: &[u8], out: &mut [u8]) -> Done
+    ensures { λ r. ⌜ r ≡ record { master = masterDone operation (now (args .entry)) master .master; size = 71 } ⌝ }
+    ensures { λ _. ⌜ now (out .exit) ≡ withMaster (copied (now (out .entry)) 0 (masterDone operation (now (args .entry)) master .answer)) (masterDone operation (now (args .entry)) master .master) ⌝ }
+{
     let first = byte(args, 0);
     let second = byte(args, 1);
     match operation {

@@ -2,6 +2,8 @@
 // bytes that each has, and what its table rules out.
 use crate::request::byte;
 use crate::request::number;
+ghost use mathlib.Core.Path.{_≡_};
+ghost use Rattle.calls.specs.Operations.{argsFit, stationArgs, otherArgs, isRequest};
 
 pub const NEW: u8 = 1;
 
@@ -72,8 +74,11 @@ const IDENTIFIERS: usize = 32768;
 // The longest output of a listing's request.
 const ROOM: usize = 4096;
 
-// Whether a request of the operation may have so many argument bytes.
-fn fits(operation: u8, size: usize) -> bool {
+// Whether a request of the operation may have so many argument bytes. Numbers that follow each other
+// have arms of their own: of such an arm the prover makes a range.
+fn fits(operation: u8, size: usize) -> bool
+    ensures { λ r. ⌜ r ≡ argsFit operation size ⌝ }
+{
     match operation {
         LISTING | MASTER | TIMEOUT => size == 0,
         NEW | CLOSE | READ | FRONT | NUMBER => size == 1,
@@ -88,7 +93,8 @@ fn fits(operation: u8, size: usize) -> bool {
         ROW => size == 12,
         LINE => size == 30,
         RECEIVE | JUDGE => size >= 1,
-        LIST | END => size >= 2,
+        LIST => size >= 2,
+        END => size >= 2,
         PIECE => size >= 9,
         RECORD => true,
         _ => false,
@@ -96,9 +102,12 @@ fn fits(operation: u8, size: usize) -> bool {
 }
 
 // Whether the arguments are within what the tables say: formats, slots, kinds, sizes.
-fn within(operation: u8, args: &[u8]) -> bool {
+fn within(operation: u8, args: &[u8]) -> bool
+    ensures { λ r. ⌜ r ≡ stationArgs operation (now (args .entry)) (otherArgs operation (now (args .entry))) ⌝ }
+{
     match operation {
-        NEW | COUNT | PIECE | FRONT | JUDGE => byte(args, 0) <= 1,
+        NEW | COUNT | FRONT => byte(args, 0) <= 1,
+        PIECE | JUDGE => byte(args, 0) <= 1,
         OPEN => byte(args, 1) <= 1,
         SLOT => (byte(args, 0) <= 15) & (byte(args, 1) <= 3) & (byte(args, 5) <= 1),
         LEND => number(args, 0) <= BYTES,
@@ -107,19 +116,24 @@ fn within(operation: u8, args: &[u8]) -> bool {
     }
 }
 
-fn within_others(operation: u8, args: &[u8]) -> bool {
+fn within_others(operation: u8, args: &[u8]) -> bool
+    ensures { λ r. ⌜ r ≡ otherArgs operation (now (args .entry)) ⌝ }
+{
     match operation {
         NUMBER => (1 <= byte(args, 0)) & (byte(args, 0) <= 21),
         FILTER => number(args, 6) <= IDENTIFIERS,
         ROW => number(args, 10) <= IDENTIFIERS,
         LINE => (byte(args, 1) <= 4) & (byte(args, 11) <= 1),
-        LIST | END => number(args, 0) <= ROOM,
+        LIST => number(args, 0) <= ROOM,
+        END => number(args, 0) <= ROOM,
         EXCHANGE => (byte(args, 0) <= 63) & (byte(args, 2) <= 3),
         START => (1 <= byte(args, 0)) & (byte(args, 0) <= 3),
         _ => true,
     }
 }
 
-pub fn is_request(operation: u8, args: &[u8]) -> bool {
+pub fn is_request(operation: u8, args: &[u8]) -> bool
+    ensures { λ r. ⌜ r ≡ isRequest operation (now (args .entry)) ⌝ }
+{
     fits(operation, args.len()) & within(operation, args)
 }

@@ -9,12 +9,14 @@ use slot::Key;
 use stream::Answer;
 use trace::Line;
 ghost use mathlib.Core.Path.{_≡_};
-ghost use Prim.Native.Nat.{_+_, _*_, _<_};
-ghost use lib.ListN.{getD};
+ghost use Prim.Native.Nat.{_<_};
+ghost use Rattle.frame.specs.Layout.{flagOf};
+ghost use Rattle.calls.specs.Requests.{byteAt, number2At, number4At, number8At, bytesBetween, bytesFrom, formatNamed, fieldsAt, keyAt};
+ghost use Rattle.calls.specs.Requests.{kindNamed, refusalNamed, answerOfLine, frameOfLine, lineOf};
 
 // The byte at a place.
 pub fn byte(args: &[u8], at: usize) -> u8
-    ensures { λ r. ⌜ r ≡ getD (now (args .entry)) at 0 ⌝ }
+    ensures { λ r. ⌜ r ≡ byteAt (now (args .entry)) at ⌝ }
 {
     if at < args.len() {
         return args[at];
@@ -23,7 +25,9 @@ pub fn byte(args: &[u8], at: usize) -> u8
 }
 
 // What stands between two places; nothing if the second is past the end.
-pub fn part(args: &[u8], from: usize, to: usize) -> &[u8] {
+pub fn part(args: &[u8], from: usize, to: usize) -> &[u8]
+    ensures { λ r. ⌜ now r ≡ bytesBetween (now (args .entry)) from to ⌝ }
+{
     if to > args.len() {
         return &args[0..0];
     }
@@ -34,14 +38,16 @@ pub fn part(args: &[u8], from: usize, to: usize) -> &[u8] {
 }
 
 // All from a place on.
-pub fn rest(args: &[u8], from: usize) -> &[u8] {
+pub fn rest(args: &[u8], from: usize) -> &[u8]
+    ensures { λ r. ⌜ now r ≡ bytesFrom (now (args .entry)) from ⌝ }
+{
     part(args, from, args.len())
 }
 
 // The two-byte number at a place.
 pub fn number(args: &[u8], at: usize) -> usize
     ensures { λ r. ⌜ r < 65536 ⌝ }
-    ensures { λ r. ⌜ r ≡ getD (now (args .entry)) at 0 * 256 + getD (now (args .entry)) (at + 1) 0 ⌝ }
+    ensures { λ r. ⌜ r ≡ number2At (now (args .entry)) at ⌝ }
 {
     if at >= args.len() {
         return 0;
@@ -52,7 +58,9 @@ pub fn number(args: &[u8], at: usize) -> usize
 }
 
 // The four-byte number at a place.
-pub fn word(args: &[u8], at: u16) -> u32 {
+pub fn word(args: &[u8], at: u16) -> u32
+    ensures { λ r. ⌜ r ≡ number4At (now (args .entry)) at ⌝ }
+{
     let at = at as usize;
     let high = number(args, at) as u32;
     let low = number(args, at + 2) as u32;
@@ -60,7 +68,9 @@ pub fn word(args: &[u8], at: u16) -> u32 {
 }
 
 // The eight-byte number at a place.
-pub fn long(args: &[u8], at: u8) -> u64 {
+pub fn long(args: &[u8], at: u8) -> u64
+    ensures { λ r. ⌜ r ≡ number8At (now (args .entry)) at ⌝ }
+{
     let at = at as u16;
     let high = word(args, at) as u64;
     let low = word(args, at + 4) as u64;
@@ -68,7 +78,9 @@ pub fn long(args: &[u8], at: u8) -> u64 {
 }
 
 // The format of a byte that is at most 1.
-pub fn format_of(code: u8) -> Format {
+pub fn format_of(code: u8) -> Format
+    ensures { λ r. ⌜ r ≡ formatNamed code ⌝ }
+{
     if code == 0 {
         return Format::Extended;
     }
@@ -76,7 +88,9 @@ pub fn format_of(code: u8) -> Format {
 }
 
 // The five bytes from a place on, as they are; a standard identifier has only three fields.
-pub fn fields(args: &[u8], at: u16, format: Format) -> Fields {
+pub fn fields(args: &[u8], at: u16, format: Format) -> Fields
+    ensures { λ r. ⌜ r ≡ fieldsAt (now (args .entry)) at format ⌝ }
+{
     let at = at as usize;
     match format {
         Format::Extended => Fields::Extended {
@@ -95,7 +109,9 @@ pub fn fields(args: &[u8], at: u16, format: Format) -> Fields {
 }
 
 // A key: bus, format and five fields, from a place on.
-pub fn key(args: &[u8], at: u8) -> Key {
+pub fn key(args: &[u8], at: u8) -> Key
+    ensures { λ r. ⌜ r ≡ keyAt (now (args .entry)) at ⌝ }
+{
     let bus = byte(args, at as usize);
     let format = format_of(byte(args, at as usize + 1));
     let fields = fields(args, at as u16 + 2, format);
@@ -106,7 +122,9 @@ pub fn key(args: &[u8], at: u8) -> Key {
 }
 
 // The kind of exchange of a byte that is 1 to 3.
-pub fn kind_of(code: u8) -> Kind {
+pub fn kind_of(code: u8) -> Kind
+    ensures { λ r. ⌜ r ≡ kindNamed code ⌝ }
+{
     match code {
         1 => Kind::Poll,
         2 => Kind::DataBlock,
@@ -114,7 +132,9 @@ pub fn kind_of(code: u8) -> Kind {
     }
 }
 
-fn flag_of(code: u8) -> Flag {
+fn flag_of(code: u8) -> Flag
+    ensures { λ r. ⌜ r ≡ flagOf code ⌝ }
+{
     match code {
         0 => Flag::Middle,
         1 => Flag::Start,
@@ -124,7 +144,9 @@ fn flag_of(code: u8) -> Flag {
 }
 
 // The refusal of a place in document 01's table, 1 to 21.
-pub fn refusal_of(place: u8) -> Refusal {
+pub fn refusal_of(place: u8) -> Refusal
+    ensures { λ r. ⌜ r ≡ refusalNamed place ⌝ }
+{
     match place {
         1 => Refusal::Length,
         2 => Refusal::Form,
@@ -151,7 +173,9 @@ pub fn refusal_of(place: u8) -> Refusal {
 }
 
 // The answer in a line: ten bytes from place 20 on, of which the number's lowest names a refusal.
-fn answer_in(args: &[u8]) -> Answer {
+fn answer_in(args: &[u8]) -> Answer
+    ensures { λ r. ⌜ r ≡ answerOfLine (now (args .entry)) ⌝ }
+{
     let broke = byte(args, 29) == 1;
     match byte(args, 20) {
         1 => Answer::Packet {
@@ -164,7 +188,9 @@ fn answer_in(args: &[u8]) -> Answer {
     }
 }
 
-fn frame_in(args: &[u8]) -> Line {
+fn frame_in(args: &[u8]) -> Line
+    ensures { λ r. ⌜ r ≡ frameOfLine (now (args .entry)) ⌝ }
+{
     let fields = fields(args, 12, format_of(byte(args, 11)));
     let flag = flag_of(byte(args, 17));
     let answer = answer_in(args);
@@ -180,7 +206,9 @@ fn frame_in(args: &[u8]) -> Line {
 }
 
 // The line of a request to write one: after the room its kind, 0 to 4, and what it shows.
-pub fn line_in(args: &[u8]) -> Line {
+pub fn line_in(args: &[u8]) -> Line
+    ensures { λ r. ⌜ r ≡ lineOf (now (args .entry)) ⌝ }
+{
     match byte(args, 1) {
         0 => Line::Header,
         1 => frame_in(args),

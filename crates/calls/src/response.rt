@@ -13,6 +13,11 @@ use stream::Progress;
 ghost use mathlib.Core.Path.{_≡_};
 ghost use Prim.Native.Nat.{_<_};
 ghost use lib.ListN.{length, replicate};
+ghost use Rattle.copying.specs.Copy.{copied};
+ghost use Rattle.format.specs.Refusals as refusals;
+ghost use Rattle.stream.specs.Answers as answers;
+ghost use Rattle.calls.specs.Responses.{number2Bytes, number4Bytes, number8Bytes, answerBytes, outcomeBytes, replyBytes, withSlots};
+ghost use Rattle.calls.specs.Responses as responses;
 
 // The size of an answer.
 pub const ANSWER: usize = 4;
@@ -23,6 +28,7 @@ pub const WITH_SLOTS: usize = 164;
 // Each byte is a step more than the one before it, modulo 256.
 pub fn fill(bytes: &mut [u8], first: u8, step: u8)
     ensures { λ _. ⌜ (step ≡ 0 → now (bytes .exit) ≡ replicate (length (now (bytes .entry))) first) ⌝ }
+    ensures { λ _. ⌜ now (bytes .exit) ≡ responses.stepped (length (now (bytes .entry))) first step ⌝ }
 {
     let mut next = first;
     let mut i = 0;
@@ -34,7 +40,10 @@ pub fn fill(bytes: &mut [u8], first: u8, step: u8)
 }
 
 // A number that has no room in two bytes, which no call gives, is shown as the largest that has.
-fn shown(n: usize) -> usize {
+fn shown(n: usize) -> usize
+    ensures { λ r. ⌜ r < 65536 ⌝ }
+    ensures { λ r. ⌜ r ≡ responses.shown n ⌝ }
+{
     if n > 65535 {
         return 65535;
     }
@@ -42,61 +51,120 @@ fn shown(n: usize) -> usize {
 }
 
 // The two bytes of a number.
-pub fn put_number(out: &mut [u8], at: usize, n: usize) {
+fn number_bytes(n: usize) -> [u8; 2]
+    ensures { λ r. ⌜ r ≡ number2Bytes n ⌝ }
+{
     let n = shown(n);
-    let bytes = [(n / 256 % 256) as u8, (n % 256) as u8];
+    [(n / 256) as u8, (n % 256) as u8]
+}
+
+pub fn put_number(out: &mut [u8], at: usize, n: usize)
+    ensures { λ _. ⌜ now (out .exit) ≡ copied (now (out .entry)) at (number2Bytes n) ⌝ }
+{
+    let bytes = number_bytes(n);
     copy_in(out, at, &bytes);
 }
 
 // The four bytes of a number.
-pub fn put_word(out: &mut [u8], at: u16, n: u32) {
-    let at = at as usize;
-    put_number(out, at, (n / 65536) as usize);
-    put_number(out, at + 2, (n % 65536) as usize);
+fn word_bytes(n: u32) -> [u8; 4]
+    ensures { λ r. ⌜ r ≡ number4Bytes n ⌝ }
+{
+    [
+        (n / 16777216) as u8,
+        (n / 65536 % 256) as u8,
+        (n / 256 % 256) as u8,
+        (n % 256) as u8,
+    ]
+}
+
+pub fn put_word(out: &mut [u8], at: usize, n: u32)
+    ensures { λ _. ⌜ now (out .exit) ≡ copied (now (out .entry)) at (number4Bytes n) ⌝ }
+{
+    let bytes = word_bytes(n);
+    copy_in(out, at, &bytes);
 }
 
 // The eight bytes of a number.
-pub fn put_long(out: &mut [u8], at: u8, n: u64) {
-    let at = at as u16;
-    put_word(out, at, (n / 4294967296) as u32);
-    put_word(out, at + 4, (n % 4294967296) as u32);
+fn long_bytes(n: u64) -> [u8; 8]
+    ensures { λ r. ⌜ r ≡ number8Bytes n ⌝ }
+{
+    let high = word_bytes((n / 4294967296) as u32);
+    let low = word_bytes((n % 4294967296) as u32);
+    [
+        high[0],
+        high[1],
+        high[2],
+        high[3],
+        low[0],
+        low[1],
+        low[2],
+        low[3],
+    ]
+}
+
+pub fn put_long(out: &mut [u8], at: usize, n: u64)
+    ensures { λ _. ⌜ now (out .exit) ≡ copied (now (out .entry)) at (number8Bytes n) ⌝ }
+{
+    let bytes = long_bytes(n);
+    copy_in(out, at, &bytes);
 }
 
 // The four bytes of an answer.
-pub fn put_answer(out: &mut [u8], kind: u8, n: usize, more: u8) {
-    let bytes = [kind, 0, 0, more];
+pub fn put_answer(out: &mut [u8], kind: u8, n: usize, more: u8)
+    ensures { λ _. ⌜ now (out .exit) ≡ copied (now (out .entry)) 0 (answerBytes kind n more) ⌝ }
+{
+    let shown = number_bytes(n);
+    let bytes = [kind, shown[0], shown[1], more];
     copy_in(out, 0, &bytes);
-    put_number(out, 1, n);
 }
 
-pub fn put_refused(out: &mut [u8], name: Refusal) {
+pub fn put_refused(out: &mut [u8], name: Refusal)
+    ensures { λ _. ⌜ now (out .exit) ≡ copied (now (out .entry)) 0 (answerBytes 4 (refusals.number name) 0) ⌝ }
+{
     put_answer(out, 4, name.number() as usize, 0);
 }
 
 // The answer of a call that gives a number or refuses.
-pub fn put_outcome(out: &mut [u8], outcome: Outcome) {
+pub fn put_outcome(out: &mut [u8], outcome: Outcome)
+    ensures { λ _. ⌜ now (out .exit) ≡ copied (now (out .entry)) 0 (outcomeBytes (refusals.meaning outcome)) ⌝ }
+{
     match outcome {
         Outcome::Value(n) => put_value(out, n),
         Outcome::Refused(name) => put_refused(out, name),
     }
 }
 
-pub fn put_value(out: &mut [u8], n: usize) {
+pub fn put_value(out: &mut [u8], n: usize)
+    ensures { λ _. ⌜ now (out .exit) ≡ copied (now (out .entry)) 0 (answerBytes 5 n 0) ⌝ }
+{
     put_answer(out, 5, n, 0);
 }
 
+pub fn flag_byte(flag: bool) -> u8
+    ensures { λ r. ⌜ r ≡ responses.flagByte flag ⌝ }
+{
+    if flag {
+        return 1;
+    }
+    0
+}
+
 // The answer of receiving.
-pub fn put_received(out: &mut [u8], answer: Answer) {
+pub fn put_received(out: &mut [u8], answer: Answer)
+    ensures { λ _. ⌜ now (out .exit) ≡ copied (now (out .entry)) 0 (replyBytes (answers.meaning answer)) ⌝ }
+{
     match answer {
-        Answer::Packet { length, broke } => put_answer(out, 1, length, broke as u8),
-        Answer::Kept { broke } => put_answer(out, 2, 0, broke as u8),
+        Answer::Packet { length, broke } => put_answer(out, 1, length, flag_byte(broke)),
+        Answer::Kept { broke } => put_answer(out, 2, 0, flag_byte(broke)),
         Answer::Filtered => put_answer(out, 3, 0, 0),
         Answer::Refused(name) => put_refused(out, name),
     }
 }
 
 // The format, and the five fields, of which the last two are 0 in standard.
-fn field_bytes(fields: Fields) -> [u8; 6] {
+fn field_bytes(fields: Fields) -> [u8; 6]
+    ensures { λ r. ⌜ r ≡ responses.fieldBytes fields ⌝ }
+{
     match fields {
         Fields::Extended {
             priority,
@@ -113,13 +181,17 @@ fn field_bytes(fields: Fields) -> [u8; 6] {
     }
 }
 
-pub fn put_fields(out: &mut [u8], at: usize, fields: Fields) {
+pub fn put_fields(out: &mut [u8], at: usize, fields: Fields)
+    ensures { λ _. ⌜ now (out .exit) ≡ copied (now (out .entry)) at (responses.fieldBytes fields) ⌝ }
+{
     let bytes = field_bytes(fields);
     copy_in(out, at, &bytes);
 }
 
 // The four bytes of a stream's progress and its key's bus.
-fn progress_bytes(progress: Progress, bus: u8) -> [u8; 4] {
+fn progress_bytes(progress: Progress, bus: u8) -> [u8; 4]
+    ensures { λ r. ⌜ r ≡ responses.progressBytes progress bus ⌝ }
+{
     match progress {
         Progress::Idle => [1, 0, 0, bus],
         Progress::Collecting(h) => [2, (h / 256) as u8, (h % 256) as u8, bus],
@@ -127,19 +199,19 @@ fn progress_bytes(progress: Progress, bus: u8) -> [u8; 4] {
     }
 }
 
-fn put_stream(out: &mut [u8], at: usize, stream: Stream)
-    requires { ⌜ at < 65000 ⌝ }
+fn stream_bytes(stream: Stream) -> [u8; 10]
+    ensures { λ r. ⌜ r ≡ responses.occupancyBytes (Occupancy.Open stream) ⌝ }
 {
     let key = stream.key;
     let progress = stream.progress;
     let fields = key.fields;
-    let bytes = progress_bytes(progress, key.bus);
-    copy_in(out, at, &bytes);
-    put_fields(out, at + 4, fields);
+    let p = progress_bytes(progress, key.bus);
+    let f = field_bytes(fields);
+    [p[0], p[1], p[2], p[3], f[0], f[1], f[2], f[3], f[4], f[5]]
 }
 
 fn put_slot(out: &mut [u8], at: usize, slot: Slot)
-    requires { ⌜ at < 65000 ⌝ }
+    ensures { λ _. ⌜ now (out .exit) ≡ copied (now (out .entry)) at (responses.occupancyBytes (slot .occupancy)) ⌝ }
 {
     let occupancy = slot.occupancy;
     match occupancy {
@@ -147,12 +219,17 @@ fn put_slot(out: &mut [u8], at: usize, slot: Slot)
             let bytes = [0u8; 10];
             copy_in(out, at, &bytes);
         }
-        Occupancy::Open(stream) => put_stream(out, at, stream),
+        Occupancy::Open(stream) => {
+            let bytes = stream_bytes(stream);
+            copy_in(out, at, &bytes);
+        }
     }
 }
 
 // The sixteen slots, after the answer.
-pub fn put_slots(out: &mut [u8], station: Station) {
+pub fn put_slots(out: &mut [u8], station: Station)
+    ensures { λ _. ⌜ now (out .exit) ≡ withSlots (now (out .entry)) 4 (station .slots) ⌝ }
+{
     let slots = station.slots;
     let mut i = 0;
     while i < 16 {

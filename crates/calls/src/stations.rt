@@ -34,6 +34,18 @@ use station::Received;
 use station::Station;
 use station::Store;
 use stream::Progress;
+ghost use mathlib.Core.Path.{_≡_};
+ghost use Prim.Native.Nat.{_+_};
+ghost use Rattle.copying.specs.Copy.{copied};
+ghost use Rattle.station.specs.Stations.{newStation};
+ghost use Rattle.station.specs.Open as opening;
+ghost use Rattle.station.specs.Receive as receiving;
+ghost use Rattle.format.specs.Refusals.{meaning};
+ghost use Rattle.calls.specs.Requests.{byteAt, number2At, keyAt, slotNamed, bytesBetween};
+ghost use Rattle.calls.specs.Responses.{answerBytes, outcomeBytes, stepped, withSlots};
+ghost use lib.ListN.{length, set, replicate};
+ghost use Rattle.station.specs.Read as reading;
+ghost use Rattle.calls.specs.Requests.{formatNamed};
 
 // The station; how much of the bytes is lent to its calls as their store; the front that receives: 0
 // the station itself, 1 a lent table of its slots; and how many records a listing in its slots has
@@ -51,7 +63,9 @@ pub struct Done {
     pub size: usize,
 }
 
-pub fn new(format: Format, count: u64) -> Desk {
+pub fn new(format: Format, count: u64) -> Desk
+    ensures { λ r. ⌜ r ≡ record { station = newStation format; lent = 32768; front = 0; count = count } ⌝ }
+{
     let station = Station::new(format);
     Desk {
         station: station,
@@ -62,7 +76,9 @@ pub fn new(format: Format, count: u64) -> Desk {
 }
 
 // A request that leaves the desk as it is.
-pub fn kept(desk: Desk, size: usize) -> Done {
+pub fn kept(desk: Desk, size: usize) -> Done
+    ensures { λ r. ⌜ r ≡ record { desk = desk; size = size } ⌝ }
+{
     Done {
         desk: desk,
         size: size,
@@ -71,7 +87,10 @@ pub fn kept(desk: Desk, size: usize) -> Done {
 
 // The response to a call that hands a station back: the answer, which is written already, and its
 // slots.
-fn changed(desk: Desk, station: Station, out: &mut [u8]) -> Done {
+fn changed(desk: Desk, station: Station, out: &mut [u8]) -> Done
+    ensures { λ r. ⌜ r ≡ record { desk = record { station = station; lent = desk .lent; front = desk .front; count = desk .count }; size = 164 } ⌝ }
+    ensures { λ _. ⌜ now (out .exit) ≡ withSlots (now (out .entry)) 4 (station .slots) ⌝ }
+{
     let mut next = desk;
     next.station = station;
     put_slots(out, station);
@@ -79,14 +98,21 @@ fn changed(desk: Desk, station: Station, out: &mut [u8]) -> Done {
 }
 
 // The response to opening or closing.
-fn put_changed(desk: Desk, r: Changed, out: &mut [u8]) -> Done {
-    let answer = r.answer;
-    let next = r.station;
+fn put_changed(desk: Desk, made: Changed, out: &mut [u8]) -> Done
+    ensures { λ r. ⌜ r ≡ record { desk = record { station = made .station; lent = desk .lent; front = desk .front; count = desk .count }; size = 164 } ⌝ }
+    ensures { λ _. ⌜ now (out .exit) ≡ withSlots (copied (now (out .entry)) 0 (outcomeBytes (meaning (made .answer)))) 4 (made .station .slots) ⌝ }
+{
+    let answer = made.answer;
+    let next = made.station;
     put_outcome(out, answer);
     changed(desk, next, out)
 }
 
-fn renew(desk: Desk, bytes: &mut [u8], args: &[u8], out: &mut [u8]) -> Done {
+fn renew(desk: Desk, bytes: &mut [u8], args: &[u8], out: &mut [u8]) -> Done
+    ensures { λ r. ⌜ r ≡ record { desk = record { station = newStation (formatNamed (byteAt (now (args .entry)) 0)); lent = 32768; front = 0; count = desk .count }; size = 164 } ⌝ }
+    ensures { λ _. ⌜ now (bytes .exit) ≡ replicate (length (now (bytes .entry))) 0 ⌝ }
+    ensures { λ _. ⌜ now (out .exit) ≡ withSlots (copied (now (out .entry)) 0 (answerBytes 5 0 0)) 4 (newStation (formatNamed (byteAt (now (args .entry)) 0)) .slots) ⌝ }
+{
     fill(bytes, 0, 0);
     put_value(out, 0);
     let next = new(format_of(byte(args, 0)), desk.count);
@@ -94,12 +120,18 @@ fn renew(desk: Desk, bytes: &mut [u8], args: &[u8], out: &mut [u8]) -> Done {
     changed(next, station, out)
 }
 
-fn open(desk: Desk, args: &[u8], out: &mut [u8]) -> Done {
+fn open(desk: Desk, args: &[u8], out: &mut [u8]) -> Done
+    ensures { λ r. ⌜ r ≡ record { desk = record { station = opening.opening (desk .station) (keyAt (now (args .entry)) 0) .station; lent = desk .lent; front = desk .front; count = desk .count }; size = 164 } ⌝ }
+    ensures { λ _. ⌜ now (out .exit) ≡ withSlots (copied (now (out .entry)) 0 (outcomeBytes (opening.opening (desk .station) (keyAt (now (args .entry)) 0) .answer))) 4 (opening.opening (desk .station) (keyAt (now (args .entry)) 0) .station .slots) ⌝ }
+{
     let station = desk.station;
     put_changed(desk, station.open(key(args, 0)), out)
 }
 
-fn close(desk: Desk, args: &[u8], out: &mut [u8]) -> Done {
+fn close(desk: Desk, args: &[u8], out: &mut [u8]) -> Done
+    ensures { λ r. ⌜ r ≡ record { desk = record { station = opening.closing (desk .station) (byteAt (now (args .entry)) 0) .station; lent = desk .lent; front = desk .front; count = desk .count }; size = 164 } ⌝ }
+    ensures { λ _. ⌜ now (out .exit) ≡ withSlots (copied (now (out .entry)) 0 (outcomeBytes (opening.closing (desk .station) (byteAt (now (args .entry)) 0) .answer))) 4 (opening.closing (desk .station) (byteAt (now (args .entry)) 0) .station .slots) ⌝ }
+{
     let station = desk.station;
     put_changed(desk, station.close(byte(args, 0) as usize), out)
 }
@@ -113,7 +145,9 @@ pub fn lent_of(bytes: &mut [u8], lent: usize) -> &mut [u8] {
 }
 
 // Over a lent table of the station's slots.
-fn receive_over_table(station: Station, store: &mut [u8], bus: u8, image: &[u8]) -> Received {
+fn receive_over_table(station: Station, store: &mut [u8], bus: u8, image: &[u8]) -> Received
+    ensures { λ r. ⌜ receiving.after r (now (store .exit)) ≡ receiving.receive station (now (store .entry)) bus (now (image .entry)) ⌝ }
+{
     let mut next = station;
     let format = station.format;
     let slots = station.slots;
@@ -128,7 +162,9 @@ fn receive_over_table(station: Station, store: &mut [u8], bus: u8, image: &[u8])
 }
 
 // At the front that is set.
-fn received(desk: Desk, store: &mut [u8], bus: u8, image: &[u8]) -> Received {
+fn received(desk: Desk, store: &mut [u8], bus: u8, image: &[u8]) -> Received
+    ensures { λ r. ⌜ receiving.after r (now (store .exit)) ≡ receiving.receive (desk .station) (now (store .entry)) bus (now (image .entry)) ⌝ }
+{
     let station = desk.station;
     if desk.front == 0 {
         return station.receive(store, bus, image);
@@ -150,7 +186,9 @@ fn receive(desk: Desk, bytes: &mut [u8], args: &[u8], out: &mut [u8]) -> Done {
 }
 
 // A slot by hand: its kind is 0 to 3.
-fn slot_of(kind: u8, h: u16, key: Key) -> Slot {
+fn slot_of(kind: u8, h: u16, key: Key) -> Slot
+    ensures { λ r. ⌜ r ≡ slotNamed kind h key ⌝ }
+{
     if kind == 0 {
         return Slot {
             occupancy: Occupancy::Closed,
@@ -179,7 +217,10 @@ fn set_slot(desk: Desk, args: &[u8], out: &mut [u8]) -> Done {
     changed(desk, station, out)
 }
 
-fn lend(desk: Desk, args: &[u8], out: &mut [u8]) -> Done {
+fn lend(desk: Desk, args: &[u8], out: &mut [u8]) -> Done
+    ensures { λ r. ⌜ r ≡ record { desk = record { station = desk .station; lent = number2At (now (args .entry)) 0; front = desk .front; count = desk .count }; size = 4 } ⌝ }
+    ensures { λ _. ⌜ now (out .exit) ≡ copied (now (out .entry)) 0 (answerBytes 5 (number2At (now (args .entry)) 0) 0) ⌝ }
+{
     let n = number(args, 0);
     put_value(out, n);
     let mut next = desk;
@@ -187,7 +228,10 @@ fn lend(desk: Desk, args: &[u8], out: &mut [u8]) -> Done {
     kept(next, ANSWER)
 }
 
-fn set_front(desk: Desk, args: &[u8], out: &mut [u8]) -> Done {
+fn set_front(desk: Desk, args: &[u8], out: &mut [u8]) -> Done
+    ensures { λ r. ⌜ r ≡ record { desk = record { station = desk .station; lent = desk .lent; front = byteAt (now (args .entry)) 0; count = desk .count }; size = 4 } ⌝ }
+    ensures { λ _. ⌜ now (out .exit) ≡ copied (now (out .entry)) 0 (answerBytes 5 0 0) ⌝ }
+{
     put_value(out, 0);
     let mut next = desk;
     next.front = byte(args, 0);
@@ -195,7 +239,9 @@ fn set_front(desk: Desk, args: &[u8], out: &mut [u8]) -> Done {
 }
 
 // Both calls: the length, and the part itself.
-fn read(desk: Desk, bytes: &[u8], args: &[u8], out: &mut [u8]) -> usize {
+fn read(desk: Desk, bytes: &[u8], args: &[u8], out: &mut [u8]) -> usize
+    ensures { λ _. ⌜ now (out .exit) ≡ copied (copied (now (out .entry)) 0 (outcomeBytes (reading.lengthOf (reading.reading (desk .station) (bytesBetween (now (bytes .entry)) 0 (desk .lent)) (byteAt (now (args .entry)) 0))))) 4 (reading.partOf (reading.reading (desk .station) (bytesBetween (now (bytes .entry)) 0 (desk .lent)) (byteAt (now (args .entry)) 0))) ⌝ }
+{
     let i = byte(args, 0) as usize;
     let station = desk.station;
     let store = part(bytes, 0, desk.lent);
@@ -206,14 +252,21 @@ fn read(desk: Desk, bytes: &[u8], args: &[u8], out: &mut [u8]) -> usize {
 }
 
 // A part of all bytes, lent or not.
-fn stored(bytes: &[u8], args: &[u8], out: &mut [u8]) -> usize {
+fn stored(bytes: &[u8], args: &[u8], out: &mut [u8]) -> usize
+    ensures { λ r. ⌜ r ≡ number2At (now (args .entry)) 2 ⌝ }
+    ensures { λ _. ⌜ now (out .exit) ≡ copied (now (out .entry)) 0 (bytesBetween (now (bytes .entry)) (number2At (now (args .entry)) 0) (number2At (now (args .entry)) 0 + number2At (now (args .entry)) 2)) ⌝ }
+{
     let from = number(args, 0);
     let size = number(args, 2);
     copy_in(out, 0, part(bytes, from, from + size));
     size
 }
 
-fn refill(bytes: &mut [u8], args: &[u8], out: &mut [u8]) -> usize {
+fn refill(bytes: &mut [u8], args: &[u8], out: &mut [u8]) -> usize
+    ensures { λ r. ⌜ r ≡ 4 ⌝ }
+    ensures { λ _. ⌜ now (bytes .exit) ≡ stepped (length (now (bytes .entry))) (byteAt (now (args .entry)) 0) (byteAt (now (args .entry)) 1) ⌝ }
+    ensures { λ _. ⌜ now (out .exit) ≡ copied (now (out .entry)) 0 (answerBytes 5 0 0) ⌝ }
+{
     fill(bytes, byte(args, 0), byte(args, 1));
     put_value(out, 0);
     ANSWER

@@ -16,7 +16,7 @@ same-length c = search needs
 
 returns : tie.Need-returns
 returns c =
-    let f = c .before .before .before .before .before .before .fill .ensures refl in
+    let f = c .before .before .before .before .before .before .fill .ensures .0 refl in
     let e = c .before .before .write-line .ensures in
     (rw (f, length-replicate) at (e .0), rw (f, length-replicate) at (e .1))
 

@@ -20,7 +20,7 @@ same-length c = search needs
 returns : tie.Need-returns
 returns c =
     let l = c .before .before .before .before .listing-of .ensures in
-    let f = c .before .before .before .before .before .before .before .fill .ensures refl in
+    let f = c .before .before .before .before .before .before .before .fill .ensures .0 refl in
     let e = c .before .before .end .ensures in
     (rw (l, f, length-replicate) at (e .0), rw (l, f, length-replicate) at (e .1))
 

@@ -20,7 +20,7 @@ same-length-2 : tie.Need-same-length-2
 same-length-2 c = search needs
 
 returns : tie.Need-returns
-returns c = rw (c .before .before .before .before .before .before .before .listing-of .ensures, c .before .before .before .before .before .before .before .before .before .before .fill .ensures refl) at (c .before .before .before .before .list .ensures)
+returns c = rw (c .before .before .before .before .before .before .before .listing-of .ensures, c .before .before .before .before .before .before .before .before .before .before .fill .ensures .0 refl) at (c .before .before .before .before .list .ensures)
 
 pub list-over-spec : {M : Type 1} → statement M
 list-over-spec =

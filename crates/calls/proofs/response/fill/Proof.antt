@@ -1,12 +1,13 @@
--- `calls::response::fill` meets its contract: the loop's invariant keeps the length, and with a step of 0 the byte.
+-- `calls::response::fill` meets its contract: the loop's invariant keeps the length, with a step of 0 the byte, and what is left to write makes the bytes that are to be.
 use borrow.Author.Needs.{needs}
-use Prim.Native.Nat.{ℕ, _+_, _-_, _≤_, _<_}
+use Prim.Native.Nat.{ℕ, suc, _+_, _-_, _%_, _≤_, _<_}
 use mathlib.Core.Path.{_≡_, refl, sym, ap, _∙_}
-use mathlib.Core.List.{List, [], _∷_, _++_}
+use mathlib.Core.List.{List, [], _∷_, _++_, append-assoc, append-nil}
 use native.Mathlib.Numerals.{add-one}
 use native.Mathlib.Omega.{arith}
 use lib.ListN.{length, take, set, replicate, length-set, replicate-append-replicate}
 use lib.Seq.{take-suc-set, take-all}
+use Rattle.calls.specs.Responses.{stepped}
 use Rattle.calls.proofs.response.fill.Statement.{statement}
 use Rattle.calls.proofs.response.fill.Tie as tie
 
@@ -20,15 +21,35 @@ one-more bytes i b x h ex e =
     ∙ ap (λ (l : List ℕ). l ++ (b ∷ [])) e
     ∙ replicate-append-replicate i 1 b
 
+step-more : (bytes whole : List ℕ) (i n next step : ℕ) → i < length bytes → length bytes ≡ n
+    → take i bytes ++ stepped (n - i) next step ≡ whole
+    → take (i + 1) (set bytes i next) ++ stepped (n - (i + 1)) ((next + step) % 256) step ≡ whole
+unfolding stepped
+step-more bytes whole i n next step h en e =
+    let m : n - i ≡ suc (n - (i + 1)) = omega arith in
+    ap (λ (l : List ℕ). l ++ stepped (n - (i + 1)) ((next + step) % 256) step)
+    (ap (λ (k : ℕ). take k (set bytes i next)) (add-one i) ∙ take-suc-set bytes i next h)
+    ∙ simp append-assoc (rw m at e)
+
+all-stepped : (bytes whole : List ℕ) (i n next step : ℕ) → i ≡ n → length bytes ≡ n → take i bytes ++ stepped (n - i) next step ≡ whole
+    → bytes ≡ whole
+unfolding stepped
+all-stepped bytes whole i n next step ei en e =
+    let m : n - i ≡ 0 = omega arith in
+    sym (append-nil bytes) ∙ sym (ap (λ (l : List ℕ). l ++ []) (take-all i bytes (omega arith))) ∙ rw m at e
+
 abbrev Inv-loop : tie.InvT-loop
 Inv-loop bytes₀ first step next₀ i₀ bytes next i =
     (i ≤ length bytes₀) × (length bytes ≡ length bytes₀) × (step ≡ 0 → (next ≡ next₀) × (take i bytes ≡ replicate i next₀))
+    × (take i bytes ++ stepped (length bytes₀ - i) next step ≡ stepped (length bytes₀) first step)
 
 abbrev μ-loop : tie.MeasureT-loop
 μ-loop bytes₀ first step next₀ i₀ bytes next i = length bytes₀ - i
 
 loop-holds : tie.Need-loop-holds Inv-loop μ-loop
-loop-holds c = (search needs, refl, λ e. (refl, refl))
+loop-holds c =
+    let a = c .before .args in
+    (search needs, refl, λ e. (refl, refl), ap (λ (k : ℕ). stepped k (a .first) (a .step)) (omega arith))
 
 slice-write-bytes : tie.Need-slice-write-bytes Inv-loop μ-loop
 slice-write-bytes c = search needs
@@ -44,8 +65,12 @@ loop-less c = search needs
 
 loop-again : tie.Need-loop-again Inv-loop μ-loop
 loop-again c =
-    let l = c .before .before .loop in
-    (search needs, simp length-set (l .inv .1), λ e. (omega (arith, c .wrapping-add-u8 .ensures, l .inv .2 e .0, e), one-more (l .bytes) (l .i) _ (l .next) (search needs) (l .inv .2 e .0) (l .inv .2 e .1)))
+    let l = c .before .before .loop in (
+      search needs,
+      simp length-set (l .inv .1),
+      λ e. (omega (arith, c .wrapping-add-u8 .ensures, l .inv .2 e .0, e), one-more (l .bytes) (l .i) _ (l .next) (search needs) (l .inv .2 e .0) (l .inv .2 e .1)),
+      rw (c .wrapping-add-u8 .ensures) (step-more (l .bytes) _ (l .i) _ (l .next) _ (search needs) (l .inv .1) (l .inv .3)),
+    )
 
 same-length : tie.Need-same-length Inv-loop μ-loop
 same-length c = search needs
@@ -54,8 +79,10 @@ returns : tie.Need-returns Inv-loop μ-loop
 returns c =
     let l = c .before .loop in
     let n = length (c .before .before .before .args .bytes .now) in
-    let at-end : l .i ≡ n = omega (arith, l .inv .0, l .inv .1) in
-    λ e. sym (take-all (l .i) (l .bytes) (omega (arith, at-end, l .inv .1))) ∙ l .inv .2 e .1 ∙ ap (λ (k : ℕ). replicate k (c .before .before .before .args .first)) at-end
+    let at-end : l .i ≡ n = omega (arith, l .inv .0, l .inv .1) in (
+      λ e. sym (take-all (l .i) (l .bytes) (omega (arith, at-end, l .inv .1))) ∙ l .inv .2 e .1 ∙ ap (λ (k : ℕ). replicate k (c .before .before .before .args .first)) at-end,
+      all-stepped (l .bytes) _ (l .i) n (l .next) _ at-end (l .inv .1) (l .inv .3),
+    )
 
 pub fill-spec : {M : Type 1} → statement M
 fill-spec =

@@ -1,0 +1,28 @@
+-- `calls::stations::close` meets its contract.
+use mathlib.Core.Path.{sym}
+use borrow.Author.Needs.{needs}
+use Rattle.calls.proofs.stations.close.Statement.{statement}
+use Rattle.calls.proofs.stations.close.Tie as tie
+
+byte-requires : tie.Need-byte-requires
+byte-requires c κs = search needs
+
+cast-close : tie.Need-cast-close
+cast-close c = search needs
+
+close-requires : tie.Need-close-requires
+close-requires c κs = search needs
+
+put-changed-requires : tie.Need-put-changed-requires
+put-changed-requires c κs = search needs
+
+same-length : tie.Need-same-length
+same-length c = search needs
+
+returns : tie.Need-returns
+returns c = (simp (sym (c .before .before .before .before .before .byte .ensures), sym (c .before .before .before .before .close .ensures), c .before .before .put-changed .ensures .0), simp (sym (c .before .before .before .before .before .byte .ensures), sym (c .before .before .before .before .close .ensures), c .before .before .put-changed .ensures .1))
+
+pub close-spec : {M : Type 1} → statement M
+close-spec =
+    tie.close
+    (tie.spec byte-requires cast-close close-requires put-changed-requires same-length returns)

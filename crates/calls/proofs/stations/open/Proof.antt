@@ -1,0 +1,24 @@
+-- `calls::stations::open` meets its contract.
+use mathlib.Core.Path.{sym}
+use borrow.Author.Needs.{needs}
+use Rattle.calls.proofs.stations.open.Statement.{statement}
+use Rattle.calls.proofs.stations.open.Tie as tie
+
+key-requires : tie.Need-key-requires
+key-requires c κs = search needs
+
+open-requires : tie.Need-open-requires
+open-requires c κs = search needs
+
+put-changed-requires : tie.Need-put-changed-requires
+put-changed-requires c κs = search needs
+
+same-length : tie.Need-same-length
+same-length c = search needs
+
+returns : tie.Need-returns
+returns c = (simp (sym (c .before .before .before .before .before .key .ensures), sym (c .before .before .before .before .«open» .ensures), c .before .before .put-changed .ensures .0), simp (sym (c .before .before .before .before .before .key .ensures), sym (c .before .before .before .before .«open» .ensures), c .before .before .put-changed .ensures .1))
+
+pub open-spec : {M : Type 1} → statement M
+open-spec =
+    tie.close (tie.spec key-requires open-requires put-changed-requires same-length returns)

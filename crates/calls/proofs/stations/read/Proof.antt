@@ -1,0 +1,49 @@
+-- `calls::stations::read` meets its contract.
+use borrow.Author.Needs.{needs}
+use Rattle.calls.proofs.stations.read.Statement.{statement}
+use Rattle.calls.proofs.stations.read.Tie as tie
+
+byte-requires : tie.Need-byte-requires
+byte-requires c κs = search needs
+
+cast-i : tie.Need-cast-i
+cast-i c = search needs
+
+part-requires : tie.Need-part-requires
+part-requires c κs = search needs
+
+read-length-requires : tie.Need-read-length-requires
+read-length-requires c κs = search needs
+
+put-outcome-requires : tie.Need-put-outcome-requires
+put-outcome-requires c κs = search needs
+
+read-requires : tie.Need-read-requires
+read-requires c κs = search needs
+
+copy-in-requires : tie.Need-copy-in-requires
+copy-in-requires c κs = search needs
+
+add-result : tie.Need-add-result
+add-result c = search needs
+
+same-length : tie.Need-same-length
+same-length c = search needs
+
+returns : tie.Need-returns
+returns c = simp (c .before .before .before .before .before .before .before .before .before .before .before .before .byte .ensures, c .before .before .before .before .before .before .before .before .before .before .part .ensures, c .before .before .before .before .before .before .before .before .read-length .ensures, c .before .before .before .before .before .before .before .put-outcome .ensures, c .before .before .before .before .read .ensures .0, c .before .before .copy-in .ensures .1)
+
+pub read-spec : {M : Type 1} → statement M
+read-spec =
+    tie.close
+    (tie.spec
+    byte-requires
+    cast-i
+    part-requires
+    read-length-requires
+    put-outcome-requires
+    read-requires
+    copy-in-requires
+    add-result
+    same-length
+    returns)
