@@ -14,6 +14,7 @@ use Rattle.format.specs.Tests.{allTrue, allAfter}
 use Rattle.slot.specs.Sound.{mostHeld, keyInRange, fits, slotSound}
 use Rattle.slot.specs.Slots.{closedSlot, openSlot}
 use Rattle.slot.specs.Codes.{keyCode, slotCode}
+use Rattle.format.proofs.Tables.{and-true}
 use Rattle.format.proofs.Tests.{each}
 use Rattle.station_bytes.specs.States.{keyIn, progressFrom, progressNumber, slotIn, slotWritten}
 use Rattle.station_bytes.specs.Parts.{keyFits, progressFits, recordGood, recordCode}
@@ -22,10 +23,6 @@ pub alike : (x y : Bool) → (x ≡ true → y ≡ true) → (y ≡ true → x �
 alike true y h g = sym (h refl)
 alike false true h g = g refl
 alike false false h g = refl
-
-and-true : (a b : Bool) → (a && b) ≡ true → (a ≡ true) × (b ≡ true)
-and-true true b e = (refl, e)
-and-true false b e = let z : false ≡ true = e in (z, cc)
 
 both-true : (a b : Bool) → a ≡ true → b ≡ true → (a && b) ≡ true
 both-true a b e q = rw (e, q)
