@@ -1,1 +1,5 @@
+mod Parts
 mod Rules
+mod Steps
+mod Desks
+mod Benches

@@ -83,11 +83,6 @@ otherArgs operation args =
 unfoldable pub isRequest : ℕ → List ℕ → Bool
 isRequest operation args = allTrue (argsFit operation (length args) ∷ stationArgs operation args (otherArgs operation args) ∷ [])
 
--- of a request: an operation byte, and its arguments
-abbrev pub isWhole : List ℕ → Bool
-isWhole [] = false
-isWhole (operation ∷ args) = isRequest operation args
-
 -- 23 MASTER, 24 EXCHANGE, 25 START, 26 REPLY, 27 TIMEOUT: the answer's bytes, and what the master becomes
 pub record MasterDone : Type 0 where
   pub answer : List ℕ

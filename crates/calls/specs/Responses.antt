@@ -3,8 +3,9 @@ use Prim.Native.Nat.{ℕ, zero, suc, _+_, _/_, _%_}
 use mathlib.Core.Bool.{Bool, cond}
 use mathlib.Core.List.{List, [], _∷_, _++_}
 use lib.Dec.{ltb}
-use lib.ListN.{replicate}
-use Rattle.copying.specs.Copy.{copied}
+use lib.ListN.{length, replicate}
+use Rattle.copying.specs.Copy.{written, copied}
+use Rattle.packet.specs.Send.{answer, outputAfter}
 use Rattle.format.specs.declared.Fields.{Fields}
 use Rattle.format.specs.declared.Fields.the-variants.{Extended, Standard}
 use Rattle.format.specs.Refusals.{Result, value, refused}
@@ -123,3 +124,22 @@ withWatch out watch = copied (copied out 4 (number4Bytes (watch .a))) 8 (number4
 -- 1 if A is to be reset, and 2 more if B is
 unfoldable pub resetsOf : (a b : Bool) → ℕ
 resetsOf a b = cond a 1 0 + cond b 2 0
+
+-- ---- a response: its size, and the output with it at its start
+
+pub record Responded : Type 0 where
+  pub size : ℕ
+  pub output : List ℕ
+
+-- one of so many bytes; where the output has no room for it there is none, which does not happen: main.rt has room for the longest
+abbrev pub roomFor : (size : ℕ) → (out with : List ℕ) → Responded
+roomFor size out with =
+    cond (ltb (length out) size) (record { size = 0; output = out }) (record { size = size; output = with })
+
+-- "answer"
+abbrev pub alone : (answer out : List ℕ) → Responded
+alone answer out = record { size = 4; output = copied out 0 answer }
+
+-- the answer of a call that writes a text "to an output of `room` bytes, which before the call are all" alike, and that output from a place on
+unfoldable pub lentIn : (at : ℕ) → Result (List ℕ) → (n byte : ℕ) → (out : List ℕ) → List ℕ
+lentIn at text n byte out = copied (written out at (outputAfter text (replicate n byte))) 0 (outcomeBytes (answer text))

@@ -20,8 +20,9 @@ ghost use mathlib.Core.Path.{_≡_};
 ghost use Rattle.master.specs.Masters.{newMaster};
 ghost use Rattle.station.specs.Stations.{newStation};
 ghost use Rattle.watch.specs.Watching.{newWatch};
-ghost use mathlib.Core.Bool.{false};
-ghost use Rattle.calls.specs.Operations.{isWhole};
+ghost use Prim.Native.Nat.{ℕ};
+ghost use mathlib.Core.List.{List};
+ghost use Rattle.calls.specs.Benches.{asBench, isImage, deskDone, otherDone, responding};
 
 pub struct Bench {
     pub desk: Desk,
@@ -85,7 +86,9 @@ fn with_watch(bench: Bench, done: watches::Done) -> Done
 }
 
 // Whether an operation keeps nothing between requests. Splitting stands among those on a station.
-fn is_image(operation: u8) -> bool {
+fn is_image(operation: u8) -> bool
+    ensures { λ r. ⌜ r ≡ isImage operation ⌝ }
+{
     if operation == COUNT {
         return true;
     }
@@ -96,7 +99,9 @@ fn is_image(operation: u8) -> bool {
 }
 
 // What works on the station and what is lent to it.
-fn change_desk(bench: Bench, bytes: &mut [u8], operation: u8, args: &[u8], out: &mut [u8]) -> Done {
+fn change_desk(bench: Bench, bytes: &mut [u8], operation: u8, args: &[u8], out: &mut [u8]) -> Done
+    ensures { λ r. ⌜ asBench r (now (bytes .exit)) (now (out .exit)) ≡ deskDone operation (now (args .entry)) bench (now (bytes .entry)) (now (out .entry)) ⌝ }
+{
     let desk = bench.desk;
     if operation < JUDGE {
         return with_desk(bench, stations::respond(desk, bytes, operation, args, out));
@@ -104,7 +109,10 @@ fn change_desk(bench: Bench, bytes: &mut [u8], operation: u8, args: &[u8], out: 
     with_desk(bench, listings::respond(desk, bytes, operation, args, out))
 }
 
-fn change_other(bench: Bench, operation: u8, args: &[u8], out: &mut [u8]) -> Done {
+// What works on the master or the watch; the bytes stay.
+fn change_other(bench: Bench, operation: u8, args: &[u8], out: &mut [u8]) -> Done
+    ensures { λ r. ⌜ ((bytes : List ℕ) → asBench r bytes (now (out .exit)) ≡ otherDone operation (now (args .entry)) bench bytes (now (out .entry))) ⌝ }
+{
     if operation < WATCH {
         let master = bench.master;
         return with_master(bench, masters::respond(master, operation, args, out));
@@ -116,7 +124,7 @@ fn change_other(bench: Bench, operation: u8, args: &[u8], out: &mut [u8]) -> Don
 // Does what a request asks for, and writes the response. One that is none leaves all as it is, and
 // its response is empty.
 pub fn respond(bench: Bench, bytes: &mut [u8], request: &[u8], out: &mut [u8]) -> Done
-    ensures { λ r. ⌜ (isWhole (now (request .entry)) ≡ false → (r ≡ record { bench = bench; size = 0 }) × (now (bytes .exit) ≡ now (bytes .entry)) × (now (out .exit) ≡ now (out .entry))) ⌝ }
+    ensures { λ r. ⌜ asBench r (now (bytes .exit)) (now (out .exit)) ≡ responding bench (now (bytes .entry)) (now (request .entry)) (now (out .entry)) ⌝ }
 {
     if request.len() < 1 {
         return kept(bench, 0);

@@ -14,11 +14,11 @@ use crate::request::format_of;
 use crate::request::line_in;
 use crate::request::long;
 use crate::request::number;
-use crate::request::part;
 use crate::request::refusal_of;
 use crate::request::rest;
 use crate::response::ANSWER;
 use crate::response::fill;
+use crate::response::flag_byte;
 use crate::response::put_answer;
 use crate::response::put_fields;
 use crate::response::put_outcome;
@@ -43,7 +43,8 @@ ghost use Rattle.trace.specs.Records.{recordAt};
 ghost use Rattle.filter.specs.Filters as filters;
 ghost use Rattle.calls.specs.Requests.{byteAt, number8At, formatNamed, refusalNamed};
 ghost use Rattle.calls.specs.Responses.{answerBytes, outcomeBytes, foundBytes};
-ghost use mathlib.Core.Bool.{cond};
+ghost use Rattle.calls.specs.Images.{pieceIn, withFrame, asked, acceptedBytes, acceptedDone};
+ghost use Rattle.calls.specs.Images.{pieceDone, judgeDone, filterDone, rowDone, lineDone, imageDone};
 
 fn count(args: &[u8], out: &mut [u8]) -> usize
     ensures { λ r. ⌜ r ≡ 4 ⌝ }
@@ -54,22 +55,35 @@ fn count(args: &[u8], out: &mut [u8]) -> usize
     ANSWER
 }
 
-// The output lent to the call is the part of the response after the answer.
-fn piece(args: &[u8], out: &mut [u8]) -> usize {
+// The call of PIECE, on an output that is all EE.
+fn piece_over(args: &[u8], output: &mut [u8]) -> Outcome
+    ensures { λ r. ⌜ meaning r ≡ answer (pieceIn (now (args .entry)) (length (now (output .entry)))) ⌝ }
+    ensures { λ _. ⌜ now (output .exit) ≡ outputAfter (pieceIn (now (args .entry)) (length (now (output .entry)))) (replicate (length (now (output .entry))) 238) ⌝ }
+{
+    fill(output, 0xEE, 0);
     let fields = fields(args, 1, format_of(byte(args, 0)));
+    packet::write_piece(fields, rest(args, 9), number(args, 6), output)
+}
+
+// The output lent to the call is the part of the response after the answer.
+fn piece(args: &[u8], out: &mut [u8]) -> usize
+    ensures { λ r. ⌜ r ≡ pieceDone (now (args .entry)) (now (out .entry)) .size ⌝ }
+    ensures { λ _. ⌜ now (out .exit) ≡ pieceDone (now (args .entry)) (now (out .entry)) .output ⌝ }
+{
     let size = ANSWER + byte(args, 8) as usize;
     if size > out.len() {
         return 0;
     }
-    fill(&mut out[ANSWER..size], 0xEE, 0);
-    let k = number(args, 6);
-    let answer = packet::write_piece(fields, rest(args, 9), k, &mut out[ANSWER..size]);
+    let answer = piece_over(args, &mut out[ANSWER..size]);
     put_outcome(out, answer);
     size
 }
 
 // Where the packet bytes begin, then format, fields, flag and number.
-fn put_head(out: &mut [u8], head: Head) -> usize {
+fn put_head(out: &mut [u8], head: Head) -> usize
+    ensures { λ r. ⌜ r ≡ 12 ⌝ }
+    ensures { λ _. ⌜ now (out .exit) ≡ withFrame (now (out .entry)) (head .start) (head .fields) (head .flag) (head .number) ⌝ }
+{
     let fields = head.fields;
     let flag = head.flag;
     let ends = [flag.bits(), head.number];
@@ -79,7 +93,10 @@ fn put_head(out: &mut [u8], head: Head) -> usize {
     12
 }
 
-fn judge(args: &[u8], out: &mut [u8]) -> usize {
+fn judge(args: &[u8], out: &mut [u8]) -> usize
+    ensures { λ r. ⌜ r ≡ judgeDone (now (args .entry)) (now (out .entry)) .size ⌝ }
+    ensures { λ _. ⌜ now (out .exit) ≡ judgeDone (now (args .entry)) (now (out .entry)) .output ⌝ }
+{
     match frame::judge(format_of(byte(args, 0)), rest(args, 1)) {
         Verdict::Sound(head) => put_head(out, head),
         Verdict::Refused(name) => {
@@ -99,7 +116,7 @@ fn refusal(args: &[u8], out: &mut [u8]) -> usize
 
 // What a pair accepts, or the first of its filters alone.
 fn accepts(pair: Pair, alone: bool, id: u16) -> bool
-    ensures { λ r. ⌜ r ≡ cond alone (filters.accepts (pair .first) id) (filters.eitherAccepts pair id) ⌝ }
+    ensures { λ r. ⌜ r ≡ asked pair alone id ⌝ }
 {
     if alone {
         let filter = pair.first;
@@ -109,18 +126,23 @@ fn accepts(pair: Pair, alone: bool, id: u16) -> bool
 }
 
 // A byte for each identifier from the one given.
-fn accepted(bytes: &mut [u8], pair: Pair, alone: bool, first: u16) {
+fn accepted(bytes: &mut [u8], pair: Pair, alone: bool, first: u16)
+    ensures { λ _. ⌜ now (bytes .exit) ≡ acceptedBytes (asked pair alone) (length (now (bytes .entry))) first ⌝ }
+{
     let mut id = first;
     let mut i = 0;
     while i < bytes.len() {
-        bytes[i] = accepts(pair, alone, id) as u8;
+        bytes[i] = flag_byte(accepts(pair, alone, id));
         id = std::num::wrapping_add_u16(id, 1);
         i += 1;
     }
 }
 
 // From and how many stand at a place of the request.
-fn put_accepted(out: &mut [u8], pair: Pair, alone: bool, args: &[u8], at: u8) -> usize {
+fn put_accepted(out: &mut [u8], pair: Pair, alone: bool, args: &[u8], at: u8) -> usize
+    ensures { λ r. ⌜ r ≡ acceptedDone (asked pair alone) (now (args .entry)) at (now (out .entry)) .size ⌝ }
+    ensures { λ _. ⌜ now (out .exit) ≡ acceptedDone (asked pair alone) (now (args .entry)) at (now (out .entry)) .output ⌝ }
+{
     let at = at as usize;
     let n = number(args, at + 2);
     if n > out.len() {
@@ -130,7 +152,10 @@ fn put_accepted(out: &mut [u8], pair: Pair, alone: bool, args: &[u8], at: u8) ->
     n
 }
 
-fn filter(args: &[u8], out: &mut [u8]) -> usize {
+fn filter(args: &[u8], out: &mut [u8]) -> usize
+    ensures { λ r. ⌜ r ≡ filterDone (now (args .entry)) (now (out .entry)) .size ⌝ }
+    ensures { λ _. ⌜ now (out .exit) ≡ filterDone (now (args .entry)) (now (out .entry)) .output ⌝ }
+{
     let filter = Filter {
         code: number(args, 0) as u16,
         mask: number(args, 2) as u16,
@@ -142,10 +167,28 @@ fn filter(args: &[u8], out: &mut [u8]) -> usize {
     put_accepted(out, pair, true, args, 4)
 }
 
-fn row(args: &[u8], out: &mut [u8]) -> usize {
-    let mut row = [0u8; 8];
-    copying::copy_in(&mut row, 0, part(args, 0, 8));
-    put_accepted(out, Pair::from_row(row), false, args, 8)
+// The pair of the row that stands at the head of the request.
+fn row_pair(args: &[u8]) -> Pair
+    ensures { λ r. ⌜ r ≡ filters.rowPair (now (args .entry)) ⌝ }
+{
+    let row = [
+        byte(args, 0),
+        byte(args, 1),
+        byte(args, 2),
+        byte(args, 3),
+        byte(args, 4),
+        byte(args, 5),
+        byte(args, 6),
+        byte(args, 7),
+    ];
+    Pair::from_row(row)
+}
+
+fn row(args: &[u8], out: &mut [u8]) -> usize
+    ensures { λ r. ⌜ r ≡ rowDone (now (args .entry)) (now (out .entry)) .size ⌝ }
+    ensures { λ _. ⌜ now (out .exit) ≡ rowDone (now (args .entry)) (now (out .entry)) .output ⌝ }
+{
+    put_accepted(out, row_pair(args), false, args, 8)
 }
 
 fn record(args: &[u8], out: &mut [u8]) -> usize
@@ -170,7 +213,10 @@ fn line_over(line: Line, output: &mut [u8]) -> Outcome
     trace::write_line(line, output)
 }
 
-fn line(args: &[u8], out: &mut [u8]) -> usize {
+fn line(args: &[u8], out: &mut [u8]) -> usize
+    ensures { λ r. ⌜ r ≡ lineDone (now (args .entry)) (now (out .entry)) .size ⌝ }
+    ensures { λ _. ⌜ now (out .exit) ≡ lineDone (now (args .entry)) (now (out .entry)) .output ⌝ }
+{
     let size = ANSWER + byte(args, 0) as usize;
     if size > out.len() {
         return 0;
@@ -181,7 +227,10 @@ fn line(args: &[u8], out: &mut [u8]) -> usize {
 }
 
 // Writes the response, and answers its size.
-pub fn respond(operation: u8, args: &[u8], out: &mut [u8]) -> usize {
+pub fn respond(operation: u8, args: &[u8], out: &mut [u8]) -> usize
+    ensures { λ r. ⌜ r ≡ imageDone operation (now (args .entry)) (now (out .entry)) .size ⌝ }
+    ensures { λ _. ⌜ now (out .exit) ≡ imageDone operation (now (args .entry)) (now (out .entry)) .output ⌝ }
+{
     match operation {
         COUNT => count(args, out),
         PIECE => piece(args, out),

@@ -17,7 +17,7 @@ use crate::response::put_value;
 use crate::stations::Desk;
 use crate::stations::Done;
 use crate::stations::kept;
-use crate::stations::lent_of;
+use crate::stations::lent_size;
 use format::Outcome;
 use lister::Listed;
 use lister::Listing;
@@ -29,6 +29,9 @@ ghost use Rattle.packet.specs.Send.{answer, outputAfter};
 ghost use Rattle.lister.specs.Listing.{listing, listingAfter, ending};
 ghost use Rattle.copying.specs.Copy.{copied};
 ghost use Rattle.lister.specs.Listing as listings;
+ghost use Rattle.calls.specs.Requests.{number8At};
+ghost use Rattle.calls.specs.Desks.{asDone, withListing, listingDone};
+ghost use Rattle.calls.specs.Desks as desks;
 ghost use Rattle.calls.specs.Responses.{answerBytes, number2Bytes, number8Bytes, reasonBytes};
 
 // The size of an answer with the count.
@@ -71,7 +74,10 @@ fn set(desk: Desk, listing: Listing, out: &mut [u8]) -> Done
     kept(with_listing(desk, listing), WITH_COUNT)
 }
 
-fn count(desk: Desk, args: &[u8], out: &mut [u8]) -> Done {
+fn count(desk: Desk, args: &[u8], out: &mut [u8]) -> Done
+    ensures { λ r. ⌜ r ≡ record { desk = withListing desk (record { slots = desk .station .slots; count = number8At (now (args .entry)) 0 }); size = 12 } ⌝ }
+    ensures { λ _. ⌜ now (out .exit) ≡ copied (copied (now (out .entry)) 0 (answerBytes 5 0 0)) 4 (number8Bytes (number8At (now (args .entry)) 0)) ⌝ }
+{
     let mut listing = listing_of(desk);
     listing.count = long(args, 0);
     set(desk, listing, out)
@@ -109,22 +115,24 @@ fn list_over(desk: Desk, store: &mut [u8], input: &[u8], output: &mut [u8]) -> L
     listing.list(store, input, output)
 }
 
-// The response to a part listed: its output stands in it already.
-fn advanced(desk: Desk, listed: Listed, out: &mut [u8], size: usize) -> Done {
-    put_listed(out, listed);
-    let next = listed.listing;
-    kept(with_listing(desk, next), size)
-}
-
 // The output lent to the call is the part of the response after what it hands back.
-fn list(desk: Desk, bytes: &mut [u8], args: &[u8], out: &mut [u8]) -> Done {
+fn list(desk: Desk, bytes: &mut [u8], args: &[u8], out: &mut [u8]) -> Done
+    ensures { λ r. ⌜ asDone r (now (bytes .exit)) (now (out .exit)) ≡ desks.listedBy (now (args .entry)) desk (now (bytes .entry)) (now (out .entry)) ⌝ }
+{
     let size = WITH_SIZES + number(args, 0);
     if size > out.len() {
         return kept(desk, 0);
     }
-    let store = lent_of(bytes, desk.lent);
-    let listed = list_over(desk, store, rest(args, 2), &mut out[WITH_SIZES..size]);
-    advanced(desk, listed, out, size)
+    let n = lent_size(desk, bytes);
+    let listed = list_over(
+        desk,
+        &mut bytes[..n],
+        rest(args, 2),
+        &mut out[WITH_SIZES..size],
+    );
+    put_listed(out, listed);
+    let next = listed.listing;
+    kept(with_listing(desk, next), size)
 }
 
 // The call of END, in the same way.
@@ -137,7 +145,10 @@ fn end_over(desk: Desk, input: &[u8], output: &mut [u8]) -> Outcome
     listing.end(input, output)
 }
 
-fn end(desk: Desk, args: &[u8], out: &mut [u8]) -> usize {
+fn end(desk: Desk, args: &[u8], out: &mut [u8]) -> usize
+    ensures { λ r. ⌜ r ≡ desks.endedBy (now (args .entry)) desk (now (out .entry)) .size ⌝ }
+    ensures { λ _. ⌜ now (out .exit) ≡ desks.endedBy (now (args .entry)) desk (now (out .entry)) .output ⌝ }
+{
     let size = WITH_COUNT + number(args, 0);
     if size > out.len() {
         return 0;
@@ -149,7 +160,9 @@ fn end(desk: Desk, args: &[u8], out: &mut [u8]) -> usize {
 }
 
 // Does what a request on a listing asks for, and writes the response.
-pub fn respond(desk: Desk, bytes: &mut [u8], operation: u8, args: &[u8], out: &mut [u8]) -> Done {
+pub fn respond(desk: Desk, bytes: &mut [u8], operation: u8, args: &[u8], out: &mut [u8]) -> Done
+    ensures { λ r. ⌜ asDone r (now (bytes .exit)) (now (out .exit)) ≡ listingDone operation (now (args .entry)) desk (now (bytes .entry)) (now (out .entry)) ⌝ }
+{
     match operation {
         LISTING => set(desk, Listing::new(), out),
         LISTED => count(desk, args, out),

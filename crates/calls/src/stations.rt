@@ -35,13 +35,16 @@ use station::Station;
 use station::Store;
 use stream::Progress;
 ghost use mathlib.Core.Path.{_≡_};
-ghost use Prim.Native.Nat.{_+_};
+ghost use mathlib.Core.List.{List};
+ghost use Prim.Native.Nat.{ℕ, _+_, _≤_};
 ghost use Rattle.copying.specs.Copy.{copied};
 ghost use Rattle.station.specs.Stations.{newStation};
 ghost use Rattle.station.specs.Open as opening;
 ghost use Rattle.station.specs.Receive as receiving;
 ghost use Rattle.format.specs.Refusals.{meaning};
-ghost use Rattle.calls.specs.Requests.{byteAt, number2At, keyAt, slotNamed, bytesBetween};
+ghost use Rattle.calls.specs.Desks.{asDone, lentSize, storeOf, slotSet, asked, stationDone};
+ghost use Rattle.calls.specs.Desks as desks;
+ghost use Rattle.calls.specs.Requests.{byteAt, number2At, keyAt, slotNamed, bytesBetween, bytesFrom};
 ghost use Rattle.calls.specs.Responses.{answerBytes, outcomeBytes, stepped, withSlots};
 ghost use lib.ListN.{length, set, replicate};
 ghost use Rattle.station.specs.Read as reading;
@@ -136,12 +139,15 @@ fn close(desk: Desk, args: &[u8], out: &mut [u8]) -> Done
     put_changed(desk, station.close(byte(args, 0) as usize), out)
 }
 
-// The part that is lent, of all bytes.
-pub fn lent_of(bytes: &mut [u8], lent: usize) -> &mut [u8] {
-    if lent > bytes.len() {
-        return bytes;
+// How many of the bytes are lent: the first of them.
+pub fn lent_size(desk: Desk, bytes: &[u8]) -> usize
+    ensures { λ r. ⌜ r ≤ length (now (bytes .entry)) ⌝ }
+    ensures { λ r. ⌜ r ≡ lentSize desk (now (bytes .entry)) ⌝ }
+{
+    if desk.lent > bytes.len() {
+        return bytes.len();
     }
-    &mut bytes[0..lent]
+    desk.lent
 }
 
 // Over a lent table of the station's slots.
@@ -172,13 +178,11 @@ fn received(desk: Desk, store: &mut [u8], bus: u8, image: &[u8]) -> Received
     receive_over_table(station, store, bus, image)
 }
 
-fn receive(desk: Desk, bytes: &mut [u8], args: &[u8], out: &mut [u8]) -> Done {
-    let r = received(
-        desk,
-        lent_of(bytes, desk.lent),
-        byte(args, 0),
-        rest(args, 1),
-    );
+fn receive(desk: Desk, bytes: &mut [u8], args: &[u8], out: &mut [u8]) -> Done
+    ensures { λ r. ⌜ asDone r (now (bytes .exit)) (now (out .exit)) ≡ desks.received (receiving.receive (desk .station) (storeOf desk (now (bytes .entry))) (byteAt (now (args .entry)) 0) (bytesFrom (now (args .entry)) 1)) desk (now (bytes .entry)) (now (out .entry)) ⌝ }
+{
+    let n = lent_size(desk, bytes);
+    let r = received(desk, &mut bytes[..n], byte(args, 0), rest(args, 1));
     let answer = r.answer;
     let next = r.station;
     put_received(out, answer);
@@ -208,7 +212,9 @@ fn slot_of(kind: u8, h: u16, key: Key) -> Slot
     }
 }
 
-fn set_slot(desk: Desk, args: &[u8], out: &mut [u8]) -> Done {
+fn set_slot(desk: Desk, args: &[u8], out: &mut [u8]) -> Done
+    ensures { λ r. ⌜ ((bytes : List ℕ) → asDone r bytes (now (out .exit)) ≡ slotSet (now (args .entry)) desk bytes (now (out .entry))) ⌝ }
+{
     let i = (byte(args, 0) % 16) as usize;
     let mut station = desk.station;
     let slot = slot_of(byte(args, 1), number(args, 2) as u16, key(args, 4));
@@ -240,11 +246,13 @@ fn set_front(desk: Desk, args: &[u8], out: &mut [u8]) -> Done
 
 // Both calls: the length, and the part itself.
 fn read(desk: Desk, bytes: &[u8], args: &[u8], out: &mut [u8]) -> usize
-    ensures { λ _. ⌜ now (out .exit) ≡ copied (copied (now (out .entry)) 0 (outcomeBytes (reading.lengthOf (reading.reading (desk .station) (bytesBetween (now (bytes .entry)) 0 (desk .lent)) (byteAt (now (args .entry)) 0))))) 4 (reading.partOf (reading.reading (desk .station) (bytesBetween (now (bytes .entry)) 0 (desk .lent)) (byteAt (now (args .entry)) 0))) ⌝ }
+    ensures { λ r. ⌜ r ≡ desks.readFrom (now (args .entry)) desk (now (bytes .entry)) (now (out .entry)) .response .size ⌝ }
+    ensures { λ _. ⌜ now (out .exit) ≡ desks.readFrom (now (args .entry)) desk (now (bytes .entry)) (now (out .entry)) .response .output ⌝ }
 {
     let i = byte(args, 0) as usize;
     let station = desk.station;
-    let store = part(bytes, 0, desk.lent);
+    let n = lent_size(desk, bytes);
+    let store = &bytes[..n];
     put_outcome(out, station.read_length(store, i));
     let packet = station.read(store, i);
     copy_in(out, ANSWER, packet);
@@ -273,7 +281,9 @@ fn refill(bytes: &mut [u8], args: &[u8], out: &mut [u8]) -> usize
 }
 
 // The operations that leave the desk as it is.
-fn ask(desk: Desk, bytes: &mut [u8], operation: u8, args: &[u8], out: &mut [u8]) -> usize {
+fn ask(desk: Desk, bytes: &mut [u8], operation: u8, args: &[u8], out: &mut [u8]) -> usize
+    ensures { λ r. ⌜ asDone (record { desk = desk; size = r }) (now (bytes .exit)) (now (out .exit)) ≡ asked operation (now (args .entry)) desk (now (bytes .entry)) (now (out .entry)) ⌝ }
+{
     match operation {
         READ => read(desk, bytes, args, out),
         STORE => stored(bytes, args, out),
@@ -283,7 +293,9 @@ fn ask(desk: Desk, bytes: &mut [u8], operation: u8, args: &[u8], out: &mut [u8])
 }
 
 // Does what a request on a station asks for, and writes the response.
-pub fn respond(desk: Desk, bytes: &mut [u8], operation: u8, args: &[u8], out: &mut [u8]) -> Done {
+pub fn respond(desk: Desk, bytes: &mut [u8], operation: u8, args: &[u8], out: &mut [u8]) -> Done
+    ensures { λ r. ⌜ asDone r (now (bytes .exit)) (now (out .exit)) ≡ stationDone operation (now (args .entry)) desk (now (bytes .entry)) (now (out .entry)) ⌝ }
+{
     match operation {
         NEW => renew(desk, bytes, args, out),
         OPEN => open(desk, args, out),

@@ -1,88 +1,105 @@
--- `calls::bench::respond` meets its contract: what is no request is answered before anything is done.
-use Prim.Native.Nat.{ℕ, _-_, _≤_}
-use mathlib.Core.Path.{_≡_}
-use mathlib.Core.Bool.{Bool, true, false, not}
-use mathlib.Core.List.{List, [], _∷_}
-use native.Mathlib.Omega.{arith}
-use lib.ListN.{length, take, drop, getD}
-use lib.Seq.{take-all}
-use Rattle.calls.specs.Operations.{isRequest, isWhole}
+use mathlib.Core.Path.{sym}
+use Rattle.calls.proofs.Benches.{empty, no-request, a-request}
+use Rattle.calls.specs.Benches.{requestDone}
+use borrow.Author.Tests.{lt-ltb, le-ltb}
 use borrow.Author.Needs.{needs}
 use Rattle.calls.proofs.bench.respond.Statement.{statement}
 use Rattle.calls.proofs.bench.respond.Tie as tie
+use Rattle.calls.proofs.bench.respond.Reads as reads
+use Rattle.calls.proofs.bench.respond.Lts as lts
+use Rattle.calls.proofs.bench.change_desk.Reads as change-desk-reads
+use Rattle.calls.proofs.bench.change_other.Reads as change-other-reads
+use Rattle.calls.proofs.bench.is_image.Reads as is-image-reads
+use Rattle.calls.proofs.bench.kept.Reads as kept-reads
+use Rattle.calls.proofs.images.respond.Reads as respond-reads
+use Rattle.calls.proofs.operations.is_request.Reads as is-request-reads
 
-is-none : (b : Bool) (request : List ℕ) → b ≡ isRequest (getD request 0 0) (take (length request - 1) (drop 1 request)) → not b ≡ false → 1 ≤ length request
-    → isWhole request ≡ false
-    → ⊥
-is-none false request e t h w = let z : _≡_ {A = ℕ} 0 1 = cc in omega arith
-is-none true [] e t h w = omega arith
-is-none true (operation ∷ args) e t h w =
-    let all = take-all (length (operation ∷ args) - 1) args (omega arith) in
-    let z : _≡_ {A = ℕ} 0 1 = cc in
-    omega arith
-
+-- src/bench.rt:130:9
 kept-requires : tie.Need-kept-requires
 kept-requires c κs = search needs
 
+-- src/bench.rt:130:9
 returns : tie.Need-returns
-returns c = search needs
+returns c = rw (c .kept .ensures) (sym (empty (c .before .before .before .before .before .args .bench) (c .before .before .before .before .before .args .bytes .now) (c .before .before .before .before .before .args .out .now) (c .before .before .before .before .before .args .request .now) (c .before .if1 .taken)))
 
+-- src/bench.rt:132:21
 shared-slice-read-operation : tie.Need-shared-slice-read-operation
 shared-slice-read-operation c = search needs
 
+-- src/bench.rt:133:16
 sub-args : tie.Need-sub-args
 sub-args c = search needs
 
+-- src/bench.rt:133:16
 part-args-start : tie.Need-part-args-start
 part-args-start c = search needs
 
+-- src/bench.rt:133:16
 part-args-end : tie.Need-part-args-end
 part-args-end c = search needs
 
+-- src/bench.rt:134:9
 is-request-requires : tie.Need-is-request-requires
 is-request-requires c κs = search needs
 
+-- src/bench.rt:135:9
 kept-requires-2 : tie.Need-kept-requires-2
 kept-requires-2 c κs = search needs
 
+-- src/bench.rt:135:9
 returns-2 : tie.Need-returns-2
-returns-2 c = search needs
+returns-2 c = rw (c .kept2 .ensures) (sym (no-request (c .before .before .before .before .before .before .before .before .before .args .bench) (c .before .before .before .before .before .before .before .before .before .args .bytes .now) (c .before .before .before .before .before .before .before .before .before .args .out .now) _ (c .before .before .before .before .before .before .before .before .before .args .request .now) (c .before .before .before .before .before .if1 .left) (c .before .before .is-request .ensures) (c .before .if2 .taken)))
 
+-- src/bench.rt:137:8
 is-image-requires : tie.Need-is-image-requires
 is-image-requires c κs = search needs
 
+-- src/bench.rt:138:28
 respond-requires : tie.Need-respond-requires
 respond-requires c κs = search needs
 
+-- src/bench.rt:138:9
 kept-requires-3 : tie.Need-kept-requires-3
 kept-requires-3 c κs = search needs
 
+-- src/bench.rt:138:9
 same-length : tie.Need-same-length
 same-length c = search needs
 
+-- src/bench.rt:138:9
 returns-3 : tie.Need-returns-3
-returns-3 c = λ e. absurd (is-none _ (c .before .before .before .before .before .before .before .before .before .before .before .before .before .before .before .args .request .now) (c .before .before .before .before .before .before .before .before .is-request .ensures) (c .before .before .before .before .before .before .before .if2 .left) (c .before .before .before .before .before .before .before .before .before .before .before .if1 .left) e)
+unfolding requestDone
+returns-3 c = a-request (c .before .before .before .before .before .before .before .before .before .before .before .before .before .before .before .args .bench) (c .before .before .before .before .before .before .before .before .before .before .before .before .before .before .before .args .bytes .now) (c .before .before .before .before .before .before .before .before .before .before .before .before .before .before .before .args .out .now) _ (c .before .before .before .before .before .before .before .before .before .before .before .before .before .before .before .args .request .now) (c .before .before .before .before .before .before .before .before .before .before .before .if1 .left) (c .before .before .before .before .before .before .before .before .is-request .ensures) (c .before .before .before .before .before .before .before .if2 .left) _ (simp (sym (c .before .before .before .before .before .before .is-image .ensures), c .before .before .before .before .before .if3 .taken, c .kept3 .ensures, c .before .before .before .respond .ensures .0, c .before .before .before .respond .ensures .1))
 
+-- src/bench.rt:141:9
 change-desk-requires : tie.Need-change-desk-requires
 change-desk-requires c κs = search needs
 
+-- src/bench.rt:141:9
 same-length-2 : tie.Need-same-length-2
 same-length-2 c = search needs
 
+-- src/bench.rt:141:9
 same-length-3 : tie.Need-same-length-3
 same-length-3 c = search needs
 
+-- src/bench.rt:141:9
 returns-4 : tie.Need-returns-4
-returns-4 c = λ e. absurd (is-none _ (c .before .before .before .before .before .before .before .before .before .before .before .before .before .before .before .before .before .before .args .request .now) (c .before .before .before .before .before .before .before .before .before .before .before .is-request .ensures) (c .before .before .before .before .before .before .before .before .before .before .if2 .left) (c .before .before .before .before .before .before .before .before .before .before .before .before .before .before .if1 .left) e)
+unfolding requestDone
+returns-4 c = a-request (c .before .before .before .before .before .before .before .before .before .before .before .before .before .before .before .before .before .before .args .bench) (c .before .before .before .before .before .before .before .before .before .before .before .before .before .before .before .before .before .before .args .bytes .now) (c .before .before .before .before .before .before .before .before .before .before .before .before .before .before .before .before .before .before .args .out .now) _ (c .before .before .before .before .before .before .before .before .before .before .before .before .before .before .before .before .before .before .args .request .now) (c .before .before .before .before .before .before .before .before .before .before .before .before .before .before .if1 .left) (c .before .before .before .before .before .before .before .before .before .before .before .is-request .ensures) (c .before .before .before .before .before .before .before .before .before .before .if2 .left) _ (simp (sym (c .before .before .before .before .before .before .before .before .before .is-image .ensures), c .before .before .before .before .before .before .before .before .if3 .left, lt-ltb _ _ (c .before .before .before .before .before .before .before .if4 .taken)) (c .before .before .before .before .change-desk .ensures))
 
+-- src/bench.rt:143:5
 change-other-requires : tie.Need-change-other-requires
 change-other-requires c κs = search needs
 
+-- src/bench.rt:126:1
 same-length-4 : tie.Need-same-length-4
 same-length-4 c = search needs
 
+-- src/bench.rt:126:1
 returns-5 : tie.Need-returns-5
-returns-5 c = λ e. absurd (is-none _ (c .before .before .before .before .before .before .before .before .before .before .before .before .before .before .before .args .request .now) (c .before .before .before .before .before .before .before .before .is-request .ensures) (c .before .before .before .before .before .before .before .if2 .left) (c .before .before .before .before .before .before .before .before .before .before .before .if1 .left) e)
+unfolding requestDone
+returns-5 c = a-request (c .before .before .before .before .before .before .before .before .before .before .before .before .before .before .before .args .bench) (c .before .before .before .before .before .before .before .before .before .before .before .before .before .before .before .args .bytes .now) (c .before .before .before .before .before .before .before .before .before .before .before .before .before .before .before .args .out .now) _ (c .before .before .before .before .before .before .before .before .before .before .before .before .before .before .before .args .request .now) (c .before .before .before .before .before .before .before .before .before .before .before .if1 .left) (c .before .before .before .before .before .before .before .before .is-request .ensures) (c .before .before .before .before .before .before .before .if2 .left) _ (simp (sym (c .before .before .before .before .before .before .is-image .ensures), c .before .before .before .before .before .if3 .left, le-ltb _ _ (c .before .before .before .before .if4 .left)) (c .before .before .change-other .ensures (c .before .before .before .before .before .before .before .before .before .before .before .before .before .before .before .args .bytes .now)))
 
 pub respond-spec : {M : Type 1} → statement M
 respond-spec =

@@ -1,0 +1,61 @@
+-- `calls::images::judge` meets its contract.
+use mathlib.Core.Path.{sym}
+use Rattle.calls.specs.Images.{judgeDone}
+use borrow.Author.Needs.{needs}
+use Rattle.calls.proofs.images.judge.Statement.{statement}
+use Rattle.calls.proofs.images.judge.Tie as tie
+
+byte-requires : tie.Need-byte-requires
+byte-requires c κs = search needs
+
+format-of-requires : tie.Need-format-of-requires
+format-of-requires c κs = search needs
+
+rest-requires : tie.Need-rest-requires
+rest-requires c κs = search needs
+
+judge-requires : tie.Need-judge-requires
+judge-requires c κs = search needs
+
+enum-known-head : tie.Need-enum-known-head
+enum-known-head c = search needs
+
+put-head-requires : tie.Need-put-head-requires
+put-head-requires c κs = search needs
+
+enum-known-name : tie.Need-enum-known-name
+enum-known-name c = search needs
+
+put-refused-requires : tie.Need-put-refused-requires
+put-refused-requires c κs = search needs
+
+same-length : tie.Need-same-length
+same-length c = search needs
+
+returns : tie.Need-returns
+unfolding judgeDone
+returns c = (simp (sym (c .before .before .before .before .before .before .before .before .before .before .byte .ensures), sym (c .before .before .before .before .before .before .before .before .before .format-of .ensures), sym (c .before .before .before .before .before .before .before .before .rest .ensures), sym (c .before .before .before .before .before .before .before .judge .ensures), c .before .before .before .before .before .head .given .1, c .before .before .put-head .ensures .0, c .before .before .put-head .ensures .1), simp (sym (c .before .before .before .before .before .before .before .before .before .before .byte .ensures), sym (c .before .before .before .before .before .before .before .before .before .format-of .ensures), sym (c .before .before .before .before .before .before .before .before .rest .ensures), sym (c .before .before .before .before .before .before .before .judge .ensures), c .before .before .before .before .before .head .given .1, c .before .before .put-head .ensures .0, c .before .before .put-head .ensures .1))
+
+same-length-2 : tie.Need-same-length-2
+same-length-2 c = search needs
+
+returns-2 : tie.Need-returns-2
+unfolding judgeDone
+returns-2 c = (simp (sym (c .before .before .before .before .before .before .before .before .before .before .byte .ensures), sym (c .before .before .before .before .before .before .before .before .before .format-of .ensures), sym (c .before .before .before .before .before .before .before .before .rest .ensures), sym (c .before .before .before .before .before .before .before .judge .ensures), c .before .before .before .before .before .name .given .1, c .before .before .put-refused .ensures), simp (sym (c .before .before .before .before .before .before .before .before .before .before .byte .ensures), sym (c .before .before .before .before .before .before .before .before .before .format-of .ensures), sym (c .before .before .before .before .before .before .before .before .rest .ensures), sym (c .before .before .before .before .before .before .before .judge .ensures), c .before .before .before .before .before .name .given .1, c .before .before .put-refused .ensures))
+
+pub judge-spec : {M : Type 1} → statement M
+judge-spec =
+    tie.close
+    (tie.spec
+    byte-requires
+    format-of-requires
+    rest-requires
+    judge-requires
+    enum-known-head
+    put-head-requires
+    enum-known-name
+    put-refused-requires
+    same-length
+    returns
+    same-length-2
+    returns-2)
