@@ -3,3 +3,4 @@ mod Rules
 mod Steps
 mod Desks
 mod Benches
+mod Working

@@ -9,7 +9,8 @@ use lib.Seq.{take-suc-set, take-all}
 
 module _ (bytes whole : List ℕ) (i : ℕ) where
   -- one byte more is written
-  pub byte-more : (b : ℕ) (left : List ℕ) → i < length bytes → take i bytes ++ (b ∷ left) ≡ whole → take (i + 1) (set bytes i b) ++ left ≡ whole
+  pub byte-more : (b : ℕ) (left : List ℕ) → i < length bytes → take i bytes ++ (b ∷ left) ≡ whole
+      → take (i + 1) (set bytes i b) ++ left ≡ whole
   byte-more b left h e = rw (add-one, take-suc-set bytes i b h, append-assoc) e
 
   -- none is left

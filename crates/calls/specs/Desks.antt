@@ -18,7 +18,7 @@ use Rattle.lister.specs.declared.Listing.{Listing}
 use Rattle.lister.specs.Listing.{AfterListing, newListing, listing, ending}
 use Rattle.calls.specs.Requests.{byteAt, number2At, number8At, bytesBetween, bytesFrom, formatNamed, keyAt, slotNamed}
 use Rattle.calls.specs.Responses.{answerBytes, outcomeBytes, replyBytes, reasonBytes, number2Bytes, number8Bytes, withSlots, stepped}
-use Rattle.calls.specs.Responses.{Responded, roomFor, alone, lentIn}
+use Rattle.calls.specs.Responses.{Responded, roomFor, answerAlone, lentIn}
 
 -- the desk after a request, the bytes, and the response
 pub record DeskDone : Type 0 where
@@ -94,12 +94,12 @@ slotSet args desk bytes out =
 abbrev pub lending : List ℕ → Desk → (bytes out : List ℕ) → DeskDone
 lending args desk bytes out =
     let n = number2At args 0 in
-    withResponse (record { station = desk .station; lent = n; front = desk .front; count = desk .count }) bytes (alone (answerBytes 5 n 0) out)
+    withResponse (record { station = desk .station; lent = n; front = desk .front; count = desk .count }) bytes (answerAlone (answerBytes 5 n 0) out)
 
 abbrev pub frontSet : List ℕ → Desk → (bytes out : List ℕ) → DeskDone
 frontSet args desk bytes out =
     let front = byteAt args 0 in
-    withResponse (record { station = desk .station; lent = desk .lent; front = front; count = desk .count }) bytes (alone (answerBytes 5 0 0) out)
+    withResponse (record { station = desk .station; lent = desk .lent; front = front; count = desk .count }) bytes (answerAlone (answerBytes 5 0 0) out)
 
 -- 10 STORE: "those of the 40,000 bytes"
 abbrev pub bytesShown : List ℕ → Desk → (bytes out : List ℕ) → DeskDone
@@ -111,11 +111,11 @@ bytesShown args desk bytes out =
 -- 11 FILL
 abbrev pub refilled : List ℕ → Desk → (bytes out : List ℕ) → DeskDone
 refilled args desk bytes out =
-    withResponse desk (stepped (length bytes) (byteAt args 0) (byteAt args 1)) (alone (answerBytes 5 0 0) out)
+    withResponse desk (stepped (length bytes) (byteAt args 0) (byteAt args 1)) (answerAlone (answerBytes 5 0 0) out)
 
 -- those that leave the desk as it is; another operation has an empty response
-unfoldable pub asked : ℕ → List ℕ → Desk → (bytes out : List ℕ) → DeskDone
-asked operation args desk bytes out =
+unfoldable pub keepingDone : ℕ → List ℕ → Desk → (bytes out : List ℕ) → DeskDone
+keepingDone operation args desk bytes out =
     cond (eqb operation 5) (readFrom args desk bytes out)
     (cond (eqb operation 10) (bytesShown args desk bytes out)
     (cond (eqb operation 11) (refilled args desk bytes out)
@@ -131,7 +131,7 @@ stationDone operation args desk bytes out =
     (cond (eqb operation 8) (slotSet args desk bytes out)
     (cond (eqb operation 9) (lending args desk bytes out)
     (cond (eqb operation 12) (frontSet args desk bytes out)
-    (asked operation args desk bytes out)))))))
+    (keepingDone operation args desk bytes out)))))))
 
 -- ---- listings: "A listing has the station's slots for its own, whatever the station's format is, and the count."
 

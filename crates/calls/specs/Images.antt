@@ -17,16 +17,16 @@ use Rattle.trace.specs.Lines.{writing}
 use Rattle.trace.specs.Records.{recordAt}
 use Rattle.calls.specs.Requests.{byteAt, number2At, number8At, bytesFrom, formatNamed, fieldsAt, refusalNamed, lineOf}
 use Rattle.calls.specs.Responses.{answerBytes, outcomeBytes, foundBytes, fieldBytes, flagByte}
-use Rattle.calls.specs.Responses.{Responded, roomFor, alone, lentIn}
+use Rattle.calls.specs.Responses.{Responded, roomFor, answerAlone, lentIn}
 
--- 7 PIECE: "format, 5 fields, k (2 bytes), room (1 byte), then the packet"
+-- 7 PIECE: "format, 5 fields, k (2 bytes), room (1 byte), then the packet"; "all EE"
 unfoldable pub pieceIn : List ℕ → (room : ℕ) → Result (List ℕ)
 pieceIn args room = send (fieldsAt args 1 (formatNamed (byteAt args 0))) (bytesFrom args 9) (number2At args 6) room
 
 unfoldable pub pieceDone : List ℕ → (out : List ℕ) → Responded
 pieceDone args out =
     let room = byteAt args 8 in
-    roomFor (4 + room) out (lentIn 4 (pieceIn args room) room 238 out)
+    roomFor (4 + room) out (lentIn 4 (pieceIn args room) room 0xEE out)
 
 -- 13 JUDGE: "answer (value: where its packet bytes begin), then format, 5 fields, flag, number; a refusal's answer stands alone"
 unfoldable pub withFrame : List ℕ → (start : ℕ) → Fields → Flag → (number : ℕ) → List ℕ
@@ -36,7 +36,7 @@ withFrame out start fields flag number =
 abbrev pub judgedDone : Result Judged → (out : List ℕ) → Responded
 judgedDone (value j) out =
     record { size = 12; output = withFrame out (j .start) (j .frame .fields) (j .frame .flag) (j .frame .number) }
-judgedDone (refused n) out = alone (answerBytes 4 n 0) out
+judgedDone (refused n) out = answerAlone (answerBytes 4 n 0) out
 
 unfoldable pub judgeDone : List ℕ → (out : List ℕ) → Responded
 judgeDone args out = judgedDone (judge (formatNamed (byteAt args 0)) (bytesFrom args 1)) out
@@ -64,7 +64,7 @@ filterDone args out = acceptedDone (accepts (record { code = number2At args 0; m
 unfoldable pub rowDone : List ℕ → (out : List ℕ) → Responded
 rowDone args out = acceptedDone (eitherAccepts (rowPair args)) args 8 out
 
--- 18 LINE: "room, line"
+-- 18 LINE: "room, line"; "all '-'"
 unfoldable pub lineDone : List ℕ → (out : List ℕ) → Responded
 lineDone args out =
     let room = byteAt args 0 in
@@ -73,12 +73,12 @@ lineDone args out =
 -- 6 COUNT, 7 PIECE, 13 JUDGE, 14 NUMBER, 15 FILTER, 16 ROW, 17 RECORD, 18 LINE
 unfoldable pub imageDone : ℕ → List ℕ → (out : List ℕ) → Responded
 imageDone operation args out =
-    cond (eqb operation 6) (alone (outcomeBytes (pieceCount (formatNamed (byteAt args 0)) (number8At args 1))) out)
+    cond (eqb operation 6) (answerAlone (outcomeBytes (pieceCount (formatNamed (byteAt args 0)) (number8At args 1))) out)
     (cond (eqb operation 7) (pieceDone args out)
     (cond (eqb operation 13) (judgeDone args out)
-    (cond (eqb operation 14) (alone (answerBytes 4 (refusals.number (refusalNamed (byteAt args 0))) 0) out)
+    (cond (eqb operation 14) (answerAlone (answerBytes 4 (refusals.number (refusalNamed (byteAt args 0))) 0) out)
     (cond (eqb operation 15) (filterDone args out)
     (cond (eqb operation 16) (rowDone args out)
-    (cond (eqb operation 17) (alone (foundBytes (recordAt args)) out)
+    (cond (eqb operation 17) (answerAlone (foundBytes (recordAt args)) out)
     (cond (eqb operation 18) (lineDone args out)
     (record { size = 0; output = out }))))))))

@@ -4,3 +4,4 @@ pub mod Operations
 pub mod Images
 pub mod Desks
 pub mod Benches
+pub mod Working

@@ -137,8 +137,8 @@ roomFor size out with =
     cond (ltb (length out) size) (record { size = 0; output = out }) (record { size = size; output = with })
 
 -- "answer"
-abbrev pub alone : (answer out : List ℕ) → Responded
-alone answer out = record { size = 4; output = copied out 0 answer }
+abbrev pub answerAlone : (answer out : List ℕ) → Responded
+answerAlone answer out = record { size = 4; output = copied out 0 answer }
 
 -- the answer of a call that writes a text "to an output of `room` bytes, which before the call are all" alike, and that output from a place on
 unfoldable pub lentIn : (at : ℕ) → Result (List ℕ) → (n byte : ℕ) → (out : List ℕ) → List ℕ

@@ -58,7 +58,7 @@ fn count(args: &[u8], out: &mut [u8]) -> usize
 // The call of PIECE, on an output that is all EE.
 fn piece_over(args: &[u8], output: &mut [u8]) -> Outcome
     ensures { λ r. ⌜ meaning r ≡ answer (pieceIn (now (args .entry)) (length (now (output .entry)))) ⌝ }
-    ensures { λ _. ⌜ now (output .exit) ≡ outputAfter (pieceIn (now (args .entry)) (length (now (output .entry)))) (replicate (length (now (output .entry))) 238) ⌝ }
+    ensures { λ _. ⌜ now (output .exit) ≡ outputAfter (pieceIn (now (args .entry)) (length (now (output .entry)))) (replicate (length (now (output .entry))) 0xEE) ⌝ }
 {
     fill(output, 0xEE, 0);
     let fields = fields(args, 1, format_of(byte(args, 0)));

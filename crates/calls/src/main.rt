@@ -13,7 +13,9 @@ mod watches;
 use bench::Bench;
 ghost use mathlib.Core.Path.{_≡_};
 ghost use Prim.Native.Nat.{_≤_};
+ghost use mathlib.Core.Bool.{false};
 ghost use lib.ListN.{length};
+ghost use Rattle.calls.specs.Working.{spanAt, startAt, responseEnd, stoppedWork, asWork, workedOne, workedOff};
 
 // Where the work stands on a filled input: the place of the next request, and how much of the
 // output is filled.
@@ -44,13 +46,14 @@ struct Span {
 }
 
 fn nowhere() -> Span
-    ensures { λ r. ⌜ (r .from ≡ 0) × (r .to ≡ 0) ⌝ }
+    ensures { λ r. ⌜ r ≡ record { from = 0; to = 0 } ⌝ }
 {
     Span { from: 0, to: 0 }
 }
 
 fn request_at(input: &[u8], at: usize) -> Span
     ensures { λ r. ⌜ (r .from ≤ r .to) × (r .to ≤ length (now (input .entry))) ⌝ }
+    ensures { λ r. ⌜ r ≡ spanAt (now (input .entry)) at ⌝ }
 {
     if at >= input.len() {
         return nowhere();
@@ -66,30 +69,33 @@ fn request_at(input: &[u8], at: usize) -> Span
     Span { from, to }
 }
 
-// Where the next response starts, after the two bytes of its length; 0 if there might not be room
-// for the longest.
-fn start_of(output: &[u8], filled: usize, most: usize) -> usize
-    ensures { λ r. ⌜ r ≤ length (now (output .entry)) ⌝ }
+// Where the next response starts in an output of so many bytes, after the two bytes of its length;
+// 0 if there might not be room for the longest.
+fn start_of(room: usize, filled: usize, most: usize) -> usize
+    ensures { λ r. ⌜ r ≤ room ⌝ }
+    ensures { λ r. ⌜ r ≡ startAt room filled most ⌝ }
 {
-    if filled >= output.len() {
+    if filled > room {
+        return 0;
+    }
+    if room - filled < 2 {
         return 0;
     }
     let start = filled + 2;
-    if start > output.len() {
-        return 0;
-    }
-    if most > output.len() - start {
+    if most > room - start {
         return 0;
     }
     start
 }
 
 // Where a response of that size ends; each ends within the output.
-fn end_of(output: &[u8], start: usize, size: usize) -> usize {
-    if start > output.len() {
-        return 0;
+fn end_of(room: usize, start: usize, size: usize) -> usize
+    ensures { λ r. ⌜ r ≡ responseEnd room start size ⌝ }
+{
+    if start > room {
+        return start;
     }
-    if size > output.len() - start {
+    if size > room - start {
         return start;
     }
     start + size
@@ -105,7 +111,9 @@ fn within(n: usize, most: usize) -> usize
     n
 }
 
-fn stopped(work: Work) -> Work {
+fn stopped(work: Work) -> Work
+    ensures { λ r. ⌜ r ≡ stoppedWork work ⌝ }
+{
     let mut next = work;
     next.going = false;
     next
@@ -113,13 +121,19 @@ fn stopped(work: Work) -> Work {
 
 // Works off one request, if one is whole and the output has room for any response: the longest is
 // that of STORE, all bytes.
-fn step(work: Work, bytes: &mut [u8], input: &[u8], output: &mut [u8]) -> Work {
+fn step(work: Work, bytes: &mut [u8], input: &[u8], output: &mut [u8]) -> Work
+    ensures { λ r. ⌜ asWork r (now (bytes .exit)) (now (output .exit)) ≡ workedOne work (now (bytes .entry)) (now (input .entry)) (now (output .entry)) ⌝ }
+{
     let filled = work.filled;
     let span = request_at(input, work.at);
-    let start = start_of(output, filled, bytes.len());
+    let room = output.len();
+    let start = start_of(room, filled, bytes.len());
     let from = span.from;
     let to = span.to;
-    if (to == 0) | (start == 0) {
+    if to == 0 {
+        return stopped(work);
+    }
+    if start == 0 {
         return stopped(work);
     }
     let bench = work.bench;
@@ -130,14 +144,16 @@ fn step(work: Work, bytes: &mut [u8], input: &[u8], output: &mut [u8]) -> Work {
     Work {
         bench: next,
         at: to,
-        filled: end_of(output, start, size),
+        filled: end_of(room, start, size),
         going: true,
     }
 }
 
 // Works off the requests of an input, of which there are fewer than it has bytes, while the output
 // has room.
-fn work_off(bench: Bench, bytes: &mut [u8], input: &[u8], output: &mut [u8]) -> Work {
+fn work_off(bench: Bench, bytes: &mut [u8], input: &[u8], output: &mut [u8]) -> Work
+    ensures { λ r. ⌜ asWork r (now (bytes .exit)) (now (output .exit)) ≡ workedOff bench (now (bytes .entry)) (now (input .entry)) (now (output .entry)) ⌝ }
+{
     let mut work = Work {
         bench: bench,
         at: 0,
@@ -153,7 +169,9 @@ fn work_off(bench: Bench, bytes: &mut [u8], input: &[u8], output: &mut [u8]) -> 
 }
 
 // The end of a session.
-fn ended() -> Held {
+fn ended() -> Held
+    ensures { λ r. ⌜ r ≡ record { held = 0; going = false } ⌝ }
+{
     Held {
         held: 0,
         going: false,

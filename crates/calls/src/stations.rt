@@ -42,7 +42,7 @@ ghost use Rattle.station.specs.Stations.{newStation};
 ghost use Rattle.station.specs.Open as opening;
 ghost use Rattle.station.specs.Receive as receiving;
 ghost use Rattle.format.specs.Refusals.{meaning};
-ghost use Rattle.calls.specs.Desks.{asDone, lentSize, storeOf, slotSet, asked, stationDone};
+ghost use Rattle.calls.specs.Desks.{asDone, lentSize, storeOf, slotSet, keepingDone, stationDone};
 ghost use Rattle.calls.specs.Desks as desks;
 ghost use Rattle.calls.specs.Requests.{byteAt, number2At, keyAt, slotNamed, bytesBetween, bytesFrom};
 ghost use Rattle.calls.specs.Responses.{answerBytes, outcomeBytes, stepped, withSlots};
@@ -282,7 +282,7 @@ fn refill(bytes: &mut [u8], args: &[u8], out: &mut [u8]) -> usize
 
 // The operations that leave the desk as it is.
 fn ask(desk: Desk, bytes: &mut [u8], operation: u8, args: &[u8], out: &mut [u8]) -> usize
-    ensures { λ r. ⌜ asDone (record { desk = desk; size = r }) (now (bytes .exit)) (now (out .exit)) ≡ asked operation (now (args .entry)) desk (now (bytes .entry)) (now (out .entry)) ⌝ }
+    ensures { λ r. ⌜ asDone (record { desk = desk; size = r }) (now (bytes .exit)) (now (out .exit)) ≡ keepingDone operation (now (args .entry)) desk (now (bytes .entry)) (now (out .entry)) ⌝ }
 {
     match operation {
         READ => read(desk, bytes, args, out),

@@ -1,4 +1,4 @@
--- `calls::images::accepted` meets its contract: the loop's invariant keeps the length, and what is left to write makes the bytes that are to be.
+-- `calls::images::accepted` meets its contract: the loop's invariant keeps the length, and says what is left to write.
 use borrow.Author.Needs.{needs}
 use Prim.Native.Nat.{ℕ, suc, _+_, _-_, _≤_}
 use mathlib.Core.Path.{_≡_, refl, ap}
@@ -49,7 +49,8 @@ loop-again c =
     let m : n - l .i ≡ suc (n - (l .i + 1)) = omega arith in (
       search needs,
       simp length-set (l .inv .1),
-      rw (c .wrapping-add-u16 .ensures, c .before .flag-byte .ensures, c .before .before .accepts .ensures) (byte-more (l .bytes) _ (l .i) _ _ (search needs) (rw m at (l .inv .2))),
+      rw (c .wrapping-add-u16 .ensures, c .before .flag-byte .ensures, c .before .before .accepts .ensures)
+          (byte-more (l .bytes) _ (l .i) _ _ (search needs) (rw m at (l .inv .2))),
     )
 
 same-length : tie.Need-same-length Inv-loop μ-loop

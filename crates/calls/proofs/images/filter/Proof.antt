@@ -25,10 +25,9 @@ same-length c = search needs
 
 returns : tie.Need-returns
 unfolding filterDone
-returns c = let e = c .before .before .put-accepted .ensures in
-    let code = sym (c .before .before .before .before .before .number .ensures .1) in
-    let mask = sym (c .before .before .before .before .number2 .ensures .1) in
-    (simp (code, mask) (e .0), simp (code, mask) (e .1))
+returns c =
+    let mask = c .before .before .before .before in
+    simp (sym (mask .before .number .ensures .1), sym (mask .number2 .ensures .1)) (c .before .before .put-accepted .ensures)
 
 pub filter-spec : {M : Type 1} → statement M
 filter-spec =

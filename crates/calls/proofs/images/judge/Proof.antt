@@ -1,5 +1,5 @@
 -- `calls::images::judge` meets its contract.
-use mathlib.Core.Path.{sym}
+use mathlib.Core.Path.{refl}
 use Rattle.calls.specs.Images.{judgeDone}
 use borrow.Author.Needs.{needs}
 use Rattle.calls.proofs.images.judge.Statement.{statement}
@@ -34,14 +34,26 @@ same-length c = search needs
 
 returns : tie.Need-returns
 unfolding judgeDone
-returns c = (simp (sym (c .before .before .before .before .before .before .before .before .before .before .byte .ensures), sym (c .before .before .before .before .before .before .before .before .before .format-of .ensures), sym (c .before .before .before .before .before .before .before .before .rest .ensures), sym (c .before .before .before .before .before .before .before .judge .ensures), c .before .before .before .before .before .head .given .1, c .before .before .put-head .ensures .0, c .before .before .put-head .ensures .1), simp (sym (c .before .before .before .before .before .before .before .before .before .before .byte .ensures), sym (c .before .before .before .before .before .before .before .before .before .format-of .ensures), sym (c .before .before .before .before .before .before .before .before .rest .ensures), sym (c .before .before .before .before .before .before .before .judge .ensures), c .before .before .before .before .before .head .given .1, c .before .before .put-head .ensures .0, c .before .before .put-head .ensures .1))
+returns c =
+    let arm = c .before .before .before .before .before in
+    let image = arm .before .before .before in
+    let format = image .before in
+    let verdict = arm .before .before .judge .ensures in
+    let is = rw (format .format-of .ensures, format .before .byte .ensures, image .rest .ensures, arm .head .given .1) at verdict in
+    rw (← is) (c .before .before .put-head .ensures)
 
 same-length-2 : tie.Need-same-length-2
 same-length-2 c = search needs
 
 returns-2 : tie.Need-returns-2
 unfolding judgeDone
-returns-2 c = (simp (sym (c .before .before .before .before .before .before .before .before .before .before .byte .ensures), sym (c .before .before .before .before .before .before .before .before .before .format-of .ensures), sym (c .before .before .before .before .before .before .before .before .rest .ensures), sym (c .before .before .before .before .before .before .before .judge .ensures), c .before .before .before .before .before .name .given .1, c .before .before .put-refused .ensures), simp (sym (c .before .before .before .before .before .before .before .before .before .before .byte .ensures), sym (c .before .before .before .before .before .before .before .before .before .format-of .ensures), sym (c .before .before .before .before .before .before .before .before .rest .ensures), sym (c .before .before .before .before .before .before .before .judge .ensures), c .before .before .before .before .before .name .given .1, c .before .before .put-refused .ensures))
+returns-2 c =
+    let arm = c .before .before .before .before .before in
+    let image = arm .before .before .before in
+    let format = image .before in
+    let verdict = arm .before .before .judge .ensures in
+    let is = rw (format .format-of .ensures, format .before .byte .ensures, image .rest .ensures, arm .name .given .1) at verdict in
+    rw (← is) (refl, c .before .before .put-refused .ensures)
 
 pub judge-spec : {M : Type 1} → statement M
 judge-spec =

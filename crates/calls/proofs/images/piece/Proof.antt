@@ -47,7 +47,7 @@ returns-2 c =
     let call = c .before .before .before .before .before .before .piece-over in (
       simp (sym (room .ensures), le-ltb _ _ h),
       simp (sym (room .ensures), c .before .before .put-outcome .ensures, le-ltb _ _ h)
-          (answered 4 (pieceIn (a .args .now)) (room .result) 238 (a .out .now) h _ _ (c .before .before .before .before .before .out .given .0) (call .ensures .0) (call .ensures .1)),
+          (answered 4 (pieceIn (a .args .now)) (room .result) 0xEE (a .out .now) h _ _ (c .before .before .before .before .before .out .given .0) (call .ensures .0) (call .ensures .1)),
     )
 
 pub piece-spec : {M : Type 1} → statement M

@@ -33,9 +33,20 @@ same-length c = search needs
 returns : tie.Need-returns
 unfolding pieceIn
 returns c =
-    let f = c .before .before .before .before .before .before .before .before .before .before .before .fill .ensures .0 refl in
-    let e = c .before .before .write-piece .ensures in
-    (rw (c .before .before .before .before .before .before .fields .ensures, c .before .before .before .before .before .before .before .format-of .ensures, c .before .before .before .before .before .before .before .before .byte .ensures, c .before .before .before .before .before .rest .ensures, c .before .before .before .before .number .ensures .1, f, length-replicate) at (e .0), rw (c .before .before .before .before .before .before .fields .ensures, c .before .before .before .before .before .before .before .format-of .ensures, c .before .before .before .before .before .before .before .before .byte .ensures, c .before .before .before .before .before .rest .ensures, c .before .before .before .before .number .ensures .1, f, length-replicate) at (e .1))
+    let call = c .before .before in
+    let k = call .before .before in
+    let fields = k .before .before in
+    let format = fields .before in
+    let filled = format .before .before .before .before .fill .ensures .0 refl in
+    rw (
+      fields .fields .ensures,
+      format .format-of .ensures,
+      format .before .byte .ensures,
+      k .before .rest .ensures,
+      k .number .ensures .1,
+      filled,
+      length-replicate,
+    ) at (call .write-piece .ensures)
 
 pub piece-over-spec : {M : Type 1} → statement M
 piece-over-spec =

@@ -1,6 +1,6 @@
 -- `calls::images::put_accepted` meets its contract.
 use Prim.Native.Nat.{_-_}
-use mathlib.Core.Path.{_≡_, sym, ap, _∙_}
+use mathlib.Core.Path.{_≡_, refl, sym, ap, _∙_}
 use native.Mathlib.Omega.{arith}
 use Rattle.copying.specs.Copy.{written}
 use borrow.Author.Tests.{lt-ltb, le-ltb}
@@ -18,9 +18,7 @@ number-requires c κs = search needs
 
 returns : tie.Need-returns
 unfolding acceptedDone
-returns c = let e = c .before .number .ensures .1 in
-    let t = lt-ltb _ _ (c .if1 .taken) in
-    (simp (sym e, t), simp (sym e, t))
+returns c = simp (sym (c .before .number .ensures .1), lt-ltb _ _ (c .if1 .taken)) (refl, refl)
 
 sub-accepted : tie.Need-sub-accepted
 sub-accepted c = search needs
@@ -46,16 +44,15 @@ same-length c = search needs
 returns-2 : tie.Need-returns-2
 unfolding acceptedDone
 returns-2 c =
-    let out = c .before .before .before .before .before .before .before .before .before .args .out .now in
-    let n = c .before .before .before .before .before .before .number in
-    let h = c .before .before .before .before .before .if1 .left in
-    let call = c .before .before .accepted in
+    let call = c .before .before in
+    let test = call .before .before .before in
+    let out = test .before .before .before .before .args .out .now in
+    let n = test .before .number in
     let z : n .result - 0 ≡ n .result = omega arith in
     let s = part-size out 0 (n .result) (omega arith) in
-    let b = part-back out 0 (n .result) (call .last .0) (rw z at (c .before .out .given .0) ∙ s) in (
-      simp (sym (n .ensures .1), le-ltb _ _ h),
-      simp (sym (n .ensures .1), sym (c .before .before .before .number2 .ensures .1), le-ltb _ _ h) (rw (z, b) (rw (z, s) at (ap (written out 0) (call .ensures)))),
-    )
+    let back = part-back out 0 (n .result) (call .accepted .last .0) (rw z at (c .before .out .given .0) ∙ s) in
+    simp (sym (n .ensures .1), sym (call .before .number2 .ensures .1), le-ltb _ _ (test .if1 .left))
+    (refl, rw (z, back) (rw (z, s) at (ap (written out 0) (call .accepted .ensures))))
 
 pub put-accepted-spec : {M : Type 1} → statement M
 put-accepted-spec =

@@ -24,7 +24,12 @@ same-length c = search needs
 
 returns : tie.Need-returns
 unfolding withFrame
-returns c = (search needs, simp (c .before .before .before .before .before .before .before .before .before .before .before .before .before .bits .ensures, c .before .before .before .before .before .before .before .before .before .before .before .put-value .ensures, c .before .before .before .before .before .before .before .put-fields .ensures, c .before .before .copy-in .ensures .1))
+returns c =
+    let ends = c .before .before in
+    let fields = ends .before .before .before .before .before in
+    let start = fields .before .before .before .before in
+    let flag = start .before .before in
+    (search needs, simp (flag .bits .ensures, start .put-value .ensures, fields .put-fields .ensures, ends .copy-in .ensures .1))
 
 pub put-head-spec : {M : Type 1} → statement M
 put-head-spec =

@@ -1,5 +1,4 @@
 -- `calls::images::row` meets its contract.
-use mathlib.Core.Path.{sym}
 use Rattle.calls.specs.Images.{rowDone}
 use borrow.Author.Needs.{needs}
 use Rattle.calls.proofs.images.row.Statement.{statement}
@@ -16,9 +15,7 @@ same-length c = search needs
 
 returns : tie.Need-returns
 unfolding rowDone
-returns c = let e = c .before .before .put-accepted .ensures in
-    let pair = sym (c .before .before .before .row-pair .ensures) in
-    (rw pair (e .0), rw pair (e .1))
+returns c = rw (← c .before .before .before .row-pair .ensures) (c .before .before .put-accepted .ensures)
 
 pub row-spec : {M : Type 1} → statement M
 row-spec = tie.close (tie.spec row-pair-requires put-accepted-requires same-length returns)

@@ -33,7 +33,20 @@ from-row-requires c κs = search needs
 
 returns : tie.Need-returns
 unfolding rowPair
-returns c = simp (c .from-row .ensures, c .before .before .before .before .before .before .before .before .byte .ensures, c .before .before .before .before .before .before .before .byte2 .ensures, c .before .before .before .before .before .before .byte3 .ensures, c .before .before .before .before .before .byte4 .ensures, c .before .before .before .before .byte5 .ensures, c .before .before .before .byte6 .ensures, c .before .before .byte7 .ensures, c .before .byte8 .ensures)
+returns c =
+    let b = c .before .before .before .before in
+    let a = b .before in
+    simp (
+      c .from-row .ensures,
+      a .before .before .before .byte .ensures,
+      a .before .before .byte2 .ensures,
+      a .before .byte3 .ensures,
+      a .byte4 .ensures,
+      b .byte5 .ensures,
+      c .before .before .before .byte6 .ensures,
+      c .before .before .byte7 .ensures,
+      c .before .byte8 .ensures,
+    )
 
 pub row-pair-spec : {M : Type 1} → statement M
 row-pair-spec =

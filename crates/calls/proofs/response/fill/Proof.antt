@@ -1,13 +1,14 @@
 -- `calls::response::fill` meets its contract: the loop's invariant keeps the length, with a step of 0 the byte, and what is left to write makes the bytes that are to be.
 use borrow.Author.Needs.{needs}
-use Prim.Native.Nat.{ℕ, suc, _+_, _-_, _%_, _≤_, _<_}
+use Prim.Native.Nat.{ℕ, suc, _+_, _-_, _≤_, _<_}
 use mathlib.Core.Path.{_≡_, refl, sym, ap, _∙_}
-use mathlib.Core.List.{List, [], _∷_, _++_, append-assoc, append-nil}
+use mathlib.Core.List.{List, [], _∷_, _++_}
 use native.Mathlib.Numerals.{add-one}
 use native.Mathlib.Omega.{arith}
 use lib.ListN.{length, take, set, replicate, length-set, replicate-append-replicate}
 use lib.Seq.{take-suc-set, take-all}
 use Rattle.calls.specs.Responses.{stepped}
+use Rattle.calls.proofs.Steps.{byte-more, all-bytes}
 use Rattle.calls.proofs.response.fill.Statement.{statement}
 use Rattle.calls.proofs.response.fill.Tie as tie
 
@@ -20,23 +21,6 @@ one-more bytes i b x h ex e =
     ∙ take-suc-set bytes i b h
     ∙ ap (λ (l : List ℕ). l ++ (b ∷ [])) e
     ∙ replicate-append-replicate i 1 b
-
-step-more : (bytes whole : List ℕ) (i n next step : ℕ) → i < length bytes → length bytes ≡ n
-    → take i bytes ++ stepped (n - i) next step ≡ whole
-    → take (i + 1) (set bytes i next) ++ stepped (n - (i + 1)) ((next + step) % 256) step ≡ whole
-unfolding stepped
-step-more bytes whole i n next step h en e =
-    let m : n - i ≡ suc (n - (i + 1)) = omega arith in
-    ap (λ (l : List ℕ). l ++ stepped (n - (i + 1)) ((next + step) % 256) step)
-    (ap (λ (k : ℕ). take k (set bytes i next)) (add-one i) ∙ take-suc-set bytes i next h)
-    ∙ simp append-assoc (rw m at e)
-
-all-stepped : (bytes whole : List ℕ) (i n next step : ℕ) → i ≡ n → length bytes ≡ n → take i bytes ++ stepped (n - i) next step ≡ whole
-    → bytes ≡ whole
-unfolding stepped
-all-stepped bytes whole i n next step ei en e =
-    let m : n - i ≡ 0 = omega arith in
-    sym (append-nil bytes) ∙ sym (ap (λ (l : List ℕ). l ++ []) (take-all i bytes (omega arith))) ∙ rw m at e
 
 abbrev Inv-loop : tie.InvT-loop
 Inv-loop bytes₀ first step next₀ i₀ bytes next i =
@@ -64,24 +48,29 @@ loop-less : tie.Need-loop-less Inv-loop μ-loop
 loop-less c = search needs
 
 loop-again : tie.Need-loop-again Inv-loop μ-loop
+unfolding stepped
 loop-again c =
-    let l = c .before .before .loop in (
+    let l = c .before .before .loop in
+    let n = length (c .before .before .before .before .args .bytes .now) in
+    let m : n - l .i ≡ suc (n - (l .i + 1)) = omega arith in (
       search needs,
       simp length-set (l .inv .1),
       λ e. (omega (arith, c .wrapping-add-u8 .ensures, l .inv .2 e .0, e), one-more (l .bytes) (l .i) _ (l .next) (search needs) (l .inv .2 e .0) (l .inv .2 e .1)),
-      rw (c .wrapping-add-u8 .ensures) (step-more (l .bytes) _ (l .i) _ (l .next) _ (search needs) (l .inv .1) (l .inv .3)),
+      rw (c .wrapping-add-u8 .ensures) (byte-more (l .bytes) _ (l .i) _ _ (search needs) (rw m at (l .inv .3))),
     )
 
 same-length : tie.Need-same-length Inv-loop μ-loop
 same-length c = search needs
 
 returns : tie.Need-returns Inv-loop μ-loop
+unfolding stepped
 returns c =
     let l = c .before .loop in
     let n = length (c .before .before .before .args .bytes .now) in
-    let at-end : l .i ≡ n = omega (arith, l .inv .0, l .inv .1) in (
+    let at-end : l .i ≡ n = omega (arith, l .inv .0, l .inv .1) in
+    let none : n - l .i ≡ 0 = omega arith in (
       λ e. sym (take-all (l .i) (l .bytes) (omega (arith, at-end, l .inv .1))) ∙ l .inv .2 e .1 ∙ ap (λ (k : ℕ). replicate k (c .before .before .before .args .first)) at-end,
-      all-stepped (l .bytes) _ (l .i) n (l .next) _ at-end (l .inv .1) (l .inv .3),
+      all-bytes (l .bytes) _ (l .i) (omega arith) (rw none at (l .inv .3)),
     )
 
 pub fill-spec : {M : Type 1} → statement M

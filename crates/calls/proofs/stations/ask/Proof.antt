@@ -1,4 +1,4 @@
-use Rattle.calls.specs.Desks.{asked}
+use Rattle.calls.specs.Desks.{keepingDone}
 use borrow.Author.Tests.{ne-eqb}
 use borrow.Author.Needs.{needs}
 use Rattle.calls.proofs.stations.ask.Statement.{statement}
@@ -31,7 +31,7 @@ same-length-2 c = search needs
 
 -- src/stations.rt:285:1
 returns : tie.Need-returns
-unfolding asked
+unfolding keepingDone
 returns c = simp (c .before .before .before .before .before .match .keys1, c .before .before .read .ensures .0, c .before .before .read .ensures .1)
 
 -- src/stations.rt:285:1
@@ -44,7 +44,7 @@ same-length-4 c = search needs
 
 -- src/stations.rt:285:1
 returns-2 : tie.Need-returns-2
-unfolding asked
+unfolding keepingDone
 returns-2 c = simp (c .before .before .before .before .before .match .keys2, c .before .before .stored .ensures .0, c .before .before .stored .ensures .1)
 
 -- src/stations.rt:285:1
@@ -57,12 +57,12 @@ same-length-6 c = search needs
 
 -- src/stations.rt:285:1
 returns-3 : tie.Need-returns-3
-unfolding asked
+unfolding keepingDone
 returns-3 c = simp (c .before .before .before .before .before .before .before .match .keys3, c .before .before .before .before .refill .ensures .0, c .before .before .before .before .refill .ensures .1 .0, c .before .before .before .before .refill .ensures .1 .1)
 
 -- src/stations.rt:285:1
 returns-4 : tie.Need-returns-4
-unfolding asked
+unfolding keepingDone
 returns-4 c = simp (ne-eqb _ _ (c .match .rest .1), ne-eqb _ _ (c .match .rest .0 .1), ne-eqb _ _ (c .match .rest .0 .0 .1))
 
 pub ask-spec : {M : Type 1} → statement M

@@ -1,0 +1,88 @@
+-- Places in the input and the output, one request, and one after the other.
+use Prim.Native.Nat.{ℕ, zero, suc, _+_, _-_, _≤_, _<_}
+use mathlib.Core.Path.{_≡_, refl, sym, ap, _∙_}
+use mathlib.Core.Bool.{true, false}
+use mathlib.Core.List.{List}
+use native.Mathlib.Omega.{arith}
+use lib.ListN.{length, take, drop, length-drop}
+use lib.Seq.{take-all}
+use borrow.Author.Tests.{le-leb, lt-leb, ne-eqb}
+use borrow.Rule.Slice.PartMut.{midOf, putMid}
+use Rattle.copying.specs.Copy.{copied}
+use Rattle.calls.specs.declared.bench.Done.{Done}
+use Rattle.calls.specs.declared.Span.{Span}
+use Rattle.calls.specs.declared.Work.{Work}
+use Rattle.calls.specs.Requests.{number2At, bytesBetween}
+use Rattle.calls.specs.Responses.{number2Bytes}
+use Rattle.calls.specs.Benches.{asBench, responding}
+use Rattle.calls.specs.Working.{requestEnd, spanAt, startAt, responseEnd, WorkDone, asWork, workedOne, worked}
+use Rattle.calls.proofs.Parts.{part-back}
+
+module _ (input : List ℕ) (at : ℕ) where
+  pub span-none : length input < at + 2 → record { from = 0; to = 0 } ≡ spanAt input at
+  unfolding spanAt requestEnd
+  span-none h = let far : length input < at + 2 + number2At input at = omega arith in rw (lt-leb _ _ far)
+
+  pub span-over : (n : ℕ) → n ≡ number2At input at → length input < at + 2 + n → record { from = 0; to = 0 } ≡ spanAt input at
+  unfolding spanAt requestEnd
+  span-over n n-is h = rw (sym n-is, lt-leb _ _ h)
+
+  pub span-in : (n : ℕ) → n ≡ number2At input at → at + 2 + n ≤ length input → record { from = at + 2; to = at + 2 + n } ≡ spanAt input at
+  unfolding spanAt requestEnd
+  span-in n n-is h = rw (sym n-is, le-leb _ _ h)
+
+module _ (room filled most : ℕ) where
+  pub start-none : room < filled + 2 + most → 0 ≡ startAt room filled most
+  unfolding startAt
+  start-none h = rw (lt-leb _ _ h)
+
+  pub start-in : filled + 2 + most ≤ room → filled + 2 ≡ startAt room filled most
+  unfolding startAt
+  start-in h = rw (le-leb _ _ h)
+
+module _ (room start size : ℕ) where
+  pub end-over : room < start + size → start ≡ responseEnd room start size
+  unfolding responseEnd
+  end-over h = rw (lt-leb _ _ h)
+
+  pub end-in : start + size ≤ room → start + size ≡ responseEnd room start size
+  unfolding responseEnd
+  end-in h = rw (le-leb _ _ h)
+
+-- a request whose response was written from `start` on
+pub step-done : (work : Work) (bytes input output : List ℕ) (span : Span) (start : ℕ) (done : Done) (bytes′ part output′ : List ℕ) (end : ℕ)
+    → span ≡ spanAt input (work .at)
+    → span .to ≤ length input
+    → start ≡ startAt (length output) (work .filled) (length bytes)
+    → start ≤ length output
+    → (span .to ≡ 0 → ⊥)
+    → (start ≡ 0 → ⊥)
+    → length part ≡ length (midOf start (length output - start) output)
+    → asBench done bytes′ part
+        ≡ responding (work .bench) bytes (take (span .to - span .from) (drop (span .from) input)) (midOf start (length output - start) output)
+    → output′ ≡ copied (putMid start (length output - start) output part) (work .filled) (number2Bytes (done .size))
+    → end ≡ responseEnd (length output) start (done .size)
+    → asWork (record { bench = done .bench; at = span .to; filled = end; going = true }) bytes′ output′ ≡ workedOne work bytes input output
+unfolding workedOne bytesBetween
+step-done work bytes input output span start done bytes′ part output′ end span-is to-in start-is start-in′ to-not start-not size-is done-is output-is end-is =
+    let mid = take-all (length output - start) (drop start output) (simp length-drop (omega arith)) in
+    let size : length part ≡ length output - start = size-is ∙ ap length mid ∙ length-drop start output in
+    let back = part-back output start (length output - start) part size in
+    rw (sym span-is, sym start-is, ne-eqb _ _ to-not, ne-eqb _ _ start-not, le-leb _ _ to-in, sym (rw mid at done-is), output-is, back, end-is)
+
+module _ (done : WorkDone) (input : List ℕ) where
+  pub worked-more : (turns : ℕ) → 0 < turns → done .work .going ≡ true
+      → worked turns done input ≡ worked (turns - 1) (workedOne (done .work) (done .bytes) input (done .output)) input
+  unfolding worked
+  worked-more zero h g = absurd (omega arith)
+  worked-more (suc turns) h g = let one : suc turns - 1 ≡ turns = omega arith in rw (g, one)
+
+  pub worked-end : (turns : ℕ) → done .work .going ≡ false → worked turns done input ≡ done
+  unfolding worked
+  worked-end zero g = refl
+  worked-end (suc turns) g = rw g
+
+  pub worked-out : (turns : ℕ) → turns ≤ 0 → worked turns done input ≡ done
+  unfolding worked
+  worked-out zero h = refl
+  worked-out (suc turns) h = absurd (omega arith)
