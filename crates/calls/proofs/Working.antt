@@ -59,7 +59,7 @@ pub step-done : (work : Work) (bytes input output : List ℕ) (span : Span) (sta
     → (start ≡ 0 → ⊥)
     → length part ≡ length (midOf start (length output - start) output)
     → asBench done bytes′ part
-        ≡ responding (work .bench) bytes (take (span .to - span .from) (drop (span .from) input)) (midOf start (length output - start) output)
+    ≡ responding (work .bench) bytes (take (span .to - span .from) (drop (span .from) input)) (midOf start (length output - start) output)
     → output′ ≡ copied (putMid start (length output - start) output part) (work .filled) (number2Bytes (done .size))
     → end ≡ responseEnd (length output) start (done .size)
     → asWork (record { bench = done .bench; at = span .to; filled = end; going = true }) bytes′ output′ ≡ workedOne work bytes input output

@@ -2,11 +2,10 @@
 -- the station and what is lent to it. The program holds "40,000 bytes [..] of which the first `lent` are lent to the calls as their store".
 use Prim.Native.Nat.{ℕ, _+_, _%_}
 use mathlib.Core.Bool.{cond}
-use mathlib.Core.List.{List, [], _∷_, _++_}
+use mathlib.Core.List.{List, _++_}
 use lib.Dec.{eqb, ltb}
 use lib.ListN.{length, take, drop, set, replicate}
 use Rattle.copying.specs.Copy.{written, copied}
-use Rattle.slot.specs.declared.Slot.{Slot}
 use Rattle.station.specs.declared.Station.{Station}
 use Rattle.station.specs.Stations as stations
 use Rattle.station.specs.Open.{StationAfter, opening, closing}
@@ -74,14 +73,13 @@ received after desk bytes out =
     withAnswer (withStation desk (after .station)) (withStore desk bytes (after .store)) (replyBytes (after .answer)) out
 
 -- 5 READ: "reads the slot by both calls"; "answer (the length), then the part's bytes"
-abbrev pub readFrom : List ℕ → Desk → (bytes out : List ℕ) → DeskDone
+abbrev pub readFrom : List ℕ → Desk → (bytes out : List ℕ) → Responded
 readFrom args desk bytes out =
     let packet = reading (desk .station) (storeOf desk bytes) (byteAt args 0) in
-    withResponse desk bytes
-    (record {
+    record {
       size = 4 + length (partOf packet);
       output = copied (copied out 0 (outcomeBytes (lengthOf packet))) 4 (partOf packet);
-    })
+    }
 
 -- 8 SLOT: "puts the slot into that state by hand, sound or not"
 abbrev pub slotSet : List ℕ → Desk → (bytes out : List ℕ) → DeskDone
@@ -102,11 +100,11 @@ frontSet args desk bytes out =
     withResponse (record { station = desk .station; lent = desk .lent; front = front; count = desk .count }) bytes (answerAlone (answerBytes 5 0 0) out)
 
 -- 10 STORE: "those of the 40,000 bytes"
-abbrev pub bytesShown : List ℕ → Desk → (bytes out : List ℕ) → DeskDone
-bytesShown args desk bytes out =
+abbrev pub bytesShown : List ℕ → (bytes out : List ℕ) → Responded
+bytesShown args bytes out =
     let from = number2At args 0 in
     let size = number2At args 2 in
-    withResponse desk bytes (record { size = size; output = copied out 0 (bytesBetween bytes from (from + size)) })
+    record { size = size; output = copied out 0 (bytesBetween bytes from (from + size)) }
 
 -- 11 FILL
 abbrev pub refilled : List ℕ → Desk → (bytes out : List ℕ) → DeskDone
@@ -116,10 +114,9 @@ refilled args desk bytes out =
 -- those that leave the desk as it is; another operation has an empty response
 unfoldable pub keepingDone : ℕ → List ℕ → Desk → (bytes out : List ℕ) → DeskDone
 keepingDone operation args desk bytes out =
-    cond (eqb operation 5) (readFrom args desk bytes out)
-    (cond (eqb operation 10) (bytesShown args desk bytes out)
-    (cond (eqb operation 11) (refilled args desk bytes out)
-    (unanswered desk bytes out)))
+    cond (eqb operation 5) (withResponse desk bytes (readFrom args desk bytes out))
+    (cond (eqb operation 10) (withResponse desk bytes (bytesShown args bytes out))
+    (cond (eqb operation 11) (refilled args desk bytes out) (unanswered desk bytes out)))
 
 unfoldable pub stationDone : ℕ → List ℕ → Desk → (bytes out : List ℕ) → DeskDone
 stationDone operation args desk bytes out =

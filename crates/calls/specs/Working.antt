@@ -5,7 +5,7 @@ use Prim.Native.Nat.{ℕ, zero, suc, _+_}
 use mathlib.Core.Bool.{true, false, cond}
 use mathlib.Core.List.{List}
 use lib.Dec.{eqb, leb}
-use lib.ListN.{length, drop}
+use lib.ListN.{length, take, drop}
 use Rattle.copying.specs.Copy.{written, copied}
 use Rattle.calls.specs.declared.bench.Bench.{Bench}
 use Rattle.calls.specs.declared.Span.{Span}
@@ -72,3 +72,10 @@ worked (suc turns) done input =
 abbrev pub workedOff : Bench → (bytes input output : List ℕ) → WorkDone
 workedOff bench bytes input output =
     worked (length input) (asWork (record { bench = bench; at = 0; filled = 0; going = true }) bytes output) input
+
+-- what is held of an input; nothing if that would be more than there is, which it never is
+unfoldable pub heldWithin : (held most : ℕ) → ℕ
+heldWithin held most = cond (leb held most) held 0
+
+abbrev pub heldOf : (held : ℕ) → List ℕ → List ℕ
+heldOf held input = take (heldWithin held (length input)) input

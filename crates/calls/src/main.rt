@@ -15,7 +15,7 @@ ghost use mathlib.Core.Path.{_≡_};
 ghost use Prim.Native.Nat.{_≤_};
 ghost use mathlib.Core.Bool.{false};
 ghost use lib.ListN.{length};
-ghost use Rattle.calls.specs.Working.{spanAt, startAt, responseEnd, stoppedWork, asWork, workedOne, workedOff};
+ghost use Rattle.calls.specs.Working.{spanAt, startAt, responseEnd, stoppedWork, asWork, workedOne, workedOff, heldWithin, heldOf};
 
 // Where the work stands on a filled input: the place of the next request, and how much of the
 // output is filled.
@@ -102,13 +102,14 @@ fn end_of(room: usize, start: usize, size: usize) -> usize
 }
 
 // At most that many.
-fn within(n: usize, most: usize) -> usize
+fn held_within(held: usize, most: usize) -> usize
     ensures { λ r. ⌜ r ≤ most ⌝ }
+    ensures { λ r. ⌜ r ≡ heldWithin held most ⌝ }
 {
-    if n > most {
+    if held > most {
         return 0;
     }
-    n
+    held
 }
 
 fn stopped(work: Work) -> Work
@@ -200,10 +201,14 @@ fn go_on(input: &mut [u8], at: usize, held: usize, output: &[u8], filled: usize)
 }
 
 // Works off what is held of the input, writes the responses and reads on.
-fn turn(session: Session, bytes: &mut [u8], input: &mut [u8], output: &mut [u8]) -> Session {
+fn turn(session: Session, bytes: &mut [u8], input: &mut [u8], output: &mut [u8]) -> Session
+    ensures { λ r. ⌜ r .bench ≡ workedOff (session .bench) (now (bytes .entry)) (heldOf (session .held) (now (input .entry))) (now (output .entry)) .work .bench ⌝ }
+    ensures { λ _. ⌜ now (bytes .exit) ≡ workedOff (session .bench) (now (bytes .entry)) (heldOf (session .held) (now (input .entry))) (now (output .entry)) .bytes ⌝ }
+    ensures { λ _. ⌜ now (output .exit) ≡ workedOff (session .bench) (now (bytes .entry)) (heldOf (session .held) (now (input .entry))) (now (output .entry)) .output ⌝ }
+{
     let bench = session.bench;
-    let held = within(session.held, input.len());
-    let work = work_off(bench, bytes, &input[0..held], output);
+    let held = held_within(session.held, input.len());
+    let work = work_off(bench, bytes, &input[..held], output);
     let next = work.bench;
     let left = go_on(input, work.at, held, output, work.filled);
     Session {

@@ -41,14 +41,11 @@ ghost use Rattle.copying.specs.Copy.{copied};
 ghost use Rattle.station.specs.Stations.{newStation};
 ghost use Rattle.station.specs.Open as opening;
 ghost use Rattle.station.specs.Receive as receiving;
-ghost use Rattle.format.specs.Refusals.{meaning};
 ghost use Rattle.calls.specs.Desks.{asDone, lentSize, storeOf, slotSet, keepingDone, stationDone};
 ghost use Rattle.calls.specs.Desks as desks;
-ghost use Rattle.calls.specs.Requests.{byteAt, number2At, keyAt, slotNamed, bytesBetween, bytesFrom};
-ghost use Rattle.calls.specs.Responses.{answerBytes, outcomeBytes, stepped, withSlots};
-ghost use lib.ListN.{length, set, replicate};
-ghost use Rattle.station.specs.Read as reading;
-ghost use Rattle.calls.specs.Requests.{formatNamed};
+ghost use Rattle.calls.specs.Requests.{byteAt, keyAt, slotNamed, bytesFrom};
+ghost use Rattle.calls.specs.Responses.{answerBytes, stepped, withSlots};
+ghost use lib.ListN.{length, set};
 
 // The station; how much of the bytes is lent to its calls as their store; the front that receives: 0
 // the station itself, 1 a lent table of its slots; and how many records a listing in its slots has
@@ -102,8 +99,7 @@ fn changed(desk: Desk, station: Station, out: &mut [u8]) -> Done
 
 // The response to opening or closing.
 fn put_changed(desk: Desk, made: Changed, out: &mut [u8]) -> Done
-    ensures { λ r. ⌜ r ≡ record { desk = record { station = made .station; lent = desk .lent; front = desk .front; count = desk .count }; size = 164 } ⌝ }
-    ensures { λ _. ⌜ now (out .exit) ≡ withSlots (copied (now (out .entry)) 0 (outcomeBytes (meaning (made .answer)))) 4 (made .station .slots) ⌝ }
+    ensures { λ r. ⌜ ((bytes : List ℕ) → asDone r bytes (now (out .exit)) ≡ desks.changed (opening.stationAfter made) desk bytes (now (out .entry))) ⌝ }
 {
     let answer = made.answer;
     let next = made.station;
@@ -112,9 +108,7 @@ fn put_changed(desk: Desk, made: Changed, out: &mut [u8]) -> Done
 }
 
 fn renew(desk: Desk, bytes: &mut [u8], args: &[u8], out: &mut [u8]) -> Done
-    ensures { λ r. ⌜ r ≡ record { desk = record { station = newStation (formatNamed (byteAt (now (args .entry)) 0)); lent = 32768; front = 0; count = desk .count }; size = 164 } ⌝ }
-    ensures { λ _. ⌜ now (bytes .exit) ≡ replicate (length (now (bytes .entry))) 0 ⌝ }
-    ensures { λ _. ⌜ now (out .exit) ≡ withSlots (copied (now (out .entry)) 0 (answerBytes 5 0 0)) 4 (newStation (formatNamed (byteAt (now (args .entry)) 0)) .slots) ⌝ }
+    ensures { λ r. ⌜ asDone r (now (bytes .exit)) (now (out .exit)) ≡ desks.renewed (now (args .entry)) desk (now (bytes .entry)) (now (out .entry)) ⌝ }
 {
     fill(bytes, 0, 0);
     put_value(out, 0);
@@ -124,16 +118,14 @@ fn renew(desk: Desk, bytes: &mut [u8], args: &[u8], out: &mut [u8]) -> Done
 }
 
 fn open(desk: Desk, args: &[u8], out: &mut [u8]) -> Done
-    ensures { λ r. ⌜ r ≡ record { desk = record { station = opening.opening (desk .station) (keyAt (now (args .entry)) 0) .station; lent = desk .lent; front = desk .front; count = desk .count }; size = 164 } ⌝ }
-    ensures { λ _. ⌜ now (out .exit) ≡ withSlots (copied (now (out .entry)) 0 (outcomeBytes (opening.opening (desk .station) (keyAt (now (args .entry)) 0) .answer))) 4 (opening.opening (desk .station) (keyAt (now (args .entry)) 0) .station .slots) ⌝ }
+    ensures { λ r. ⌜ ((bytes : List ℕ) → asDone r bytes (now (out .exit)) ≡ desks.changed (opening.opening (desk .station) (keyAt (now (args .entry)) 0)) desk bytes (now (out .entry))) ⌝ }
 {
     let station = desk.station;
     put_changed(desk, station.open(key(args, 0)), out)
 }
 
 fn close(desk: Desk, args: &[u8], out: &mut [u8]) -> Done
-    ensures { λ r. ⌜ r ≡ record { desk = record { station = opening.closing (desk .station) (byteAt (now (args .entry)) 0) .station; lent = desk .lent; front = desk .front; count = desk .count }; size = 164 } ⌝ }
-    ensures { λ _. ⌜ now (out .exit) ≡ withSlots (copied (now (out .entry)) 0 (outcomeBytes (opening.closing (desk .station) (byteAt (now (args .entry)) 0) .answer))) 4 (opening.closing (desk .station) (byteAt (now (args .entry)) 0) .station .slots) ⌝ }
+    ensures { λ r. ⌜ ((bytes : List ℕ) → asDone r bytes (now (out .exit)) ≡ desks.changed (opening.closing (desk .station) (byteAt (now (args .entry)) 0)) desk bytes (now (out .entry))) ⌝ }
 {
     let station = desk.station;
     put_changed(desk, station.close(byte(args, 0) as usize), out)
@@ -213,7 +205,7 @@ fn slot_of(kind: u8, h: u16, key: Key) -> Slot
 }
 
 fn set_slot(desk: Desk, args: &[u8], out: &mut [u8]) -> Done
-    ensures { λ r. ⌜ ((bytes : List ℕ) → asDone r bytes (now (out .exit)) ≡ slotSet (now (args .entry)) desk bytes (now (out .entry))) ⌝ }
+    ensures { λ r. ⌜ ((bytes : List ℕ) → asDone r bytes (now (out .exit)) ≡ desks.slotSet (now (args .entry)) desk bytes (now (out .entry))) ⌝ }
 {
     let i = (byte(args, 0) % 16) as usize;
     let mut station = desk.station;
@@ -224,8 +216,7 @@ fn set_slot(desk: Desk, args: &[u8], out: &mut [u8]) -> Done
 }
 
 fn lend(desk: Desk, args: &[u8], out: &mut [u8]) -> Done
-    ensures { λ r. ⌜ r ≡ record { desk = record { station = desk .station; lent = number2At (now (args .entry)) 0; front = desk .front; count = desk .count }; size = 4 } ⌝ }
-    ensures { λ _. ⌜ now (out .exit) ≡ copied (now (out .entry)) 0 (answerBytes 5 (number2At (now (args .entry)) 0) 0) ⌝ }
+    ensures { λ r. ⌜ ((bytes : List ℕ) → asDone r bytes (now (out .exit)) ≡ desks.lending (now (args .entry)) desk bytes (now (out .entry))) ⌝ }
 {
     let n = number(args, 0);
     put_value(out, n);
@@ -235,8 +226,7 @@ fn lend(desk: Desk, args: &[u8], out: &mut [u8]) -> Done
 }
 
 fn set_front(desk: Desk, args: &[u8], out: &mut [u8]) -> Done
-    ensures { λ r. ⌜ r ≡ record { desk = record { station = desk .station; lent = desk .lent; front = byteAt (now (args .entry)) 0; count = desk .count }; size = 4 } ⌝ }
-    ensures { λ _. ⌜ now (out .exit) ≡ copied (now (out .entry)) 0 (answerBytes 5 0 0) ⌝ }
+    ensures { λ r. ⌜ ((bytes : List ℕ) → asDone r bytes (now (out .exit)) ≡ desks.frontSet (now (args .entry)) desk bytes (now (out .entry))) ⌝ }
 {
     put_value(out, 0);
     let mut next = desk;
@@ -246,8 +236,8 @@ fn set_front(desk: Desk, args: &[u8], out: &mut [u8]) -> Done
 
 // Both calls: the length, and the part itself.
 fn read(desk: Desk, bytes: &[u8], args: &[u8], out: &mut [u8]) -> usize
-    ensures { λ r. ⌜ r ≡ desks.readFrom (now (args .entry)) desk (now (bytes .entry)) (now (out .entry)) .response .size ⌝ }
-    ensures { λ _. ⌜ now (out .exit) ≡ desks.readFrom (now (args .entry)) desk (now (bytes .entry)) (now (out .entry)) .response .output ⌝ }
+    ensures { λ r. ⌜ r ≡ desks.readFrom (now (args .entry)) desk (now (bytes .entry)) (now (out .entry)) .size ⌝ }
+    ensures { λ _. ⌜ now (out .exit) ≡ desks.readFrom (now (args .entry)) desk (now (bytes .entry)) (now (out .entry)) .output ⌝ }
 {
     let i = byte(args, 0) as usize;
     let station = desk.station;
@@ -261,8 +251,8 @@ fn read(desk: Desk, bytes: &[u8], args: &[u8], out: &mut [u8]) -> usize
 
 // A part of all bytes, lent or not.
 fn stored(bytes: &[u8], args: &[u8], out: &mut [u8]) -> usize
-    ensures { λ r. ⌜ r ≡ number2At (now (args .entry)) 2 ⌝ }
-    ensures { λ _. ⌜ now (out .exit) ≡ copied (now (out .entry)) 0 (bytesBetween (now (bytes .entry)) (number2At (now (args .entry)) 0) (number2At (now (args .entry)) 0 + number2At (now (args .entry)) 2)) ⌝ }
+    ensures { λ r. ⌜ r ≡ desks.bytesShown (now (args .entry)) (now (bytes .entry)) (now (out .entry)) .size ⌝ }
+    ensures { λ _. ⌜ now (out .exit) ≡ desks.bytesShown (now (args .entry)) (now (bytes .entry)) (now (out .entry)) .output ⌝ }
 {
     let from = number(args, 0);
     let size = number(args, 2);

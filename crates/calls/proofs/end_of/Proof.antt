@@ -1,24 +1,19 @@
+-- `calls::end_of` meets its contract.
 use Rattle.calls.proofs.Working.{end-over, end-in}
 use native.Mathlib.Omega.{arith}
 use borrow.Author.Needs.{needs}
 use Rattle.calls.proofs.end_of.Statement.{statement}
 use Rattle.calls.proofs.end_of.Tie as tie
-use Rattle.calls.proofs.end_of.Reads as reads
-use Rattle.calls.proofs.end_of.Lts as lts
 
--- src/main.rt:96:9
 returns : tie.Need-returns
 returns c = end-over _ _ _ (omega (arith, c .if1 .taken))
 
--- src/main.rt:99:9
 returns-2 : tie.Need-returns-2
 returns-2 c = end-over _ _ _ (omega (arith, c .if2 .taken, c .before .if1 .left))
 
--- src/main.rt:101:5
 add-result : tie.Need-add-result
 add-result c = search needs
 
--- src/main.rt:92:1
 returns-3 : tie.Need-returns-3
 returns-3 c = end-in _ _ _ (omega (arith, c .if2 .left, c .before .if1 .left))
 

@@ -1,32 +1,25 @@
+-- `calls::start_of` meets its contract.
 use Rattle.calls.proofs.Working.{start-none, start-in}
 use native.Mathlib.Omega.{arith}
 use borrow.Author.Needs.{needs}
 use Rattle.calls.proofs.start_of.Statement.{statement}
 use Rattle.calls.proofs.start_of.Tie as tie
-use Rattle.calls.proofs.start_of.Reads as reads
-use Rattle.calls.proofs.start_of.Lts as lts
 
--- src/main.rt:79:9
 returns : tie.Need-returns
 returns c = (omega arith, start-none _ _ _ (omega (arith, c .if1 .taken)))
 
--- src/main.rt:82:9
 returns-2 : tie.Need-returns-2
 returns-2 c = (omega arith, start-none _ _ _ (omega (arith, c .if2 .taken, c .before .if1 .left)))
 
--- src/main.rt:84:17
 add-start : tie.Need-add-start
 add-start c = search needs
 
--- src/main.rt:85:15
 sub-if3 : tie.Need-sub-if3
 sub-if3 c = search needs
 
--- src/main.rt:86:9
 returns-3 : tie.Need-returns-3
 returns-3 c = (omega arith, start-none _ _ _ (omega (arith, c .if3 .taken, c .before .if2 .left)))
 
--- src/main.rt:74:1
 returns-4 : tie.Need-returns-4
 returns-4 c = (omega (arith, c .if3 .left, c .before .if2 .left), start-in _ _ _ (omega (arith, c .if3 .left, c .before .if2 .left, c .before .before .if1 .left)))
 

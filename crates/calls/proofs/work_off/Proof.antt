@@ -30,7 +30,7 @@ loop-less : tie.Need-loop-less Inv-loop μ-loop
 loop-less c = search needs
 
 loop-again : tie.Need-loop-again Inv-loop μ-loop
-loop-again c = 
+loop-again c =
     let loop = c .before .before .before .before .before .before .before .before .before .loop in
     let input = c .before .before .before .before .before .before .before .before .before .before .before .before .before .args .input .now in
     let done = asWork (loop .work) (loop .bytes) (loop .output) in

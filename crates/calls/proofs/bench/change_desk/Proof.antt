@@ -1,53 +1,39 @@
+-- `calls::bench::change_desk` meets its contract.
 use Rattle.calls.specs.Benches.{deskDone}
 use borrow.Author.Tests.{lt-ltb, le-ltb}
 use mathlib.Core.Path.{sym}
 use borrow.Author.Needs.{needs}
 use Rattle.calls.proofs.bench.change_desk.Statement.{statement}
 use Rattle.calls.proofs.bench.change_desk.Tie as tie
-use Rattle.calls.proofs.bench.change_desk.Reads as reads
-use Rattle.calls.proofs.bench.change_desk.Lts as lts
-use Rattle.calls.proofs.bench.with_desk.Reads as with-desk-reads
-use Rattle.calls.proofs.listings.respond.Reads as listings-respond-reads
-use Rattle.calls.proofs.stations.respond.Reads as stations-respond-reads
 
--- src/bench.rt:107:33
 respond-requires : tie.Need-respond-requires
 respond-requires c κs = search needs
 
--- src/bench.rt:107:9
 with-desk-requires : tie.Need-with-desk-requires
 with-desk-requires c κs = search needs
 
--- src/bench.rt:107:9
 same-length : tie.Need-same-length
 same-length c = search needs
 
--- src/bench.rt:107:9
 same-length-2 : tie.Need-same-length-2
 same-length-2 c = search needs
 
--- src/bench.rt:107:9
 returns : tie.Need-returns
 unfolding deskDone
 returns c = simp (lt-ltb _ _ (c .before .before .before .before .before .before .before .before .if1 .taken), c .with-desk .ensures, sym (c .before .before .before .before .before .respond .ensures))
 
--- src/bench.rt:109:22
 respond-requires-2 : tie.Need-respond-requires-2
 respond-requires-2 c κs = search needs
 
--- src/bench.rt:109:5
 with-desk-requires-2 : tie.Need-with-desk-requires-2
 with-desk-requires-2 c κs = search needs
 
--- src/bench.rt:102:1
 same-length-3 : tie.Need-same-length-3
 same-length-3 c = search needs
 
--- src/bench.rt:102:1
 same-length-4 : tie.Need-same-length-4
 same-length-4 c = search needs
 
--- src/bench.rt:102:1
 returns-2 : tie.Need-returns-2
 unfolding deskDone
 returns-2 c = simp (le-ltb _ _ (c .before .before .before .before .before .before .before .before .if1 .left), c .with-desk2 .ensures, sym (c .before .before .before .before .before .respond2 .ensures))

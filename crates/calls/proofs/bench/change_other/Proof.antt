@@ -1,45 +1,32 @@
+-- `calls::bench::change_other` meets its contract.
 use Rattle.calls.specs.Benches.{otherDone}
 use borrow.Author.Tests.{lt-ltb, le-ltb}
 use borrow.Author.Needs.{needs}
 use Rattle.calls.proofs.bench.change_other.Statement.{statement}
 use Rattle.calls.proofs.bench.change_other.Tie as tie
-use Rattle.calls.proofs.bench.change_other.Reads as reads
-use Rattle.calls.proofs.bench.change_other.Lts as lts
-use Rattle.calls.proofs.bench.with_master.Reads as with-master-reads
-use Rattle.calls.proofs.bench.with_watch.Reads as with-watch-reads
-use Rattle.calls.proofs.masters.respond.Reads as masters-respond-reads
-use Rattle.calls.proofs.watches.respond.Reads as watches-respond-reads
 
--- src/bench.rt:118:35
 respond-requires : tie.Need-respond-requires
 respond-requires c κs = search needs
 
--- src/bench.rt:118:9
 with-master-requires : tie.Need-with-master-requires
 with-master-requires c κs = search needs
 
--- src/bench.rt:118:9
 same-length : tie.Need-same-length
 same-length c = search needs
 
--- src/bench.rt:118:9
 returns : tie.Need-returns
 unfolding otherDone
 returns c = λ bytes. simp (lt-ltb _ _ (c .before .before .before .before .before .before .if1 .taken), c .with-master .ensures, c .before .before .before .respond .ensures .0, c .before .before .before .respond .ensures .1)
 
--- src/bench.rt:121:23
 respond-requires-2 : tie.Need-respond-requires-2
 respond-requires-2 c κs = search needs
 
--- src/bench.rt:121:5
 with-watch-requires : tie.Need-with-watch-requires
 with-watch-requires c κs = search needs
 
--- src/bench.rt:113:1
 same-length-2 : tie.Need-same-length-2
 same-length-2 c = search needs
 
--- src/bench.rt:113:1
 returns-2 : tie.Need-returns-2
 unfolding otherDone
 returns-2 c = λ bytes. simp (le-ltb _ _ (c .before .before .before .before .before .before .if1 .left), c .with-watch .ensures, c .before .before .before .respond2 .ensures .0, c .before .before .before .respond2 .ensures .1)

@@ -1,22 +1,18 @@
+-- `calls::bench::is_image` meets its contract.
 use Rattle.format.specs.Tests.{allTrue, allAfter}
 use Rattle.calls.specs.Benches.{isImage}
 use borrow.Author.Tests.{ne-eqb}
 use Rattle.calls.proofs.bench.is_image.Statement.{statement}
 use Rattle.calls.proofs.bench.is_image.Tie as tie
-use Rattle.calls.proofs.bench.is_image.Reads as reads
-use Rattle.calls.proofs.bench.is_image.Lts as lts
 
--- src/bench.rt:93:9
 returns : tie.Need-returns
 unfolding isImage allTrue allAfter
 returns c = simp (c .if1 .taken)
 
--- src/bench.rt:96:9
 returns-2 : tie.Need-returns-2
 unfolding isImage allTrue allAfter
 returns-2 c = simp (c .if2 .taken)
 
--- src/bench.rt:89:1
 returns-3 : tie.Need-returns-3
 unfolding isImage allTrue allAfter
 returns-3 c = simp (ne-eqb _ _ (c .before .if1 .left), ne-eqb _ _ (c .if2 .left))

@@ -1,3 +1,4 @@
+-- `calls::bench::respond` meets its contract.
 use mathlib.Core.Path.{sym}
 use Rattle.calls.proofs.Benches.{empty, no-request, a-request}
 use Rattle.calls.specs.Benches.{requestDone}
@@ -5,98 +6,69 @@ use borrow.Author.Tests.{lt-ltb, le-ltb}
 use borrow.Author.Needs.{needs}
 use Rattle.calls.proofs.bench.respond.Statement.{statement}
 use Rattle.calls.proofs.bench.respond.Tie as tie
-use Rattle.calls.proofs.bench.respond.Reads as reads
-use Rattle.calls.proofs.bench.respond.Lts as lts
-use Rattle.calls.proofs.bench.change_desk.Reads as change-desk-reads
-use Rattle.calls.proofs.bench.change_other.Reads as change-other-reads
-use Rattle.calls.proofs.bench.is_image.Reads as is-image-reads
-use Rattle.calls.proofs.bench.kept.Reads as kept-reads
-use Rattle.calls.proofs.images.respond.Reads as respond-reads
-use Rattle.calls.proofs.operations.is_request.Reads as is-request-reads
 
--- src/bench.rt:130:9
 kept-requires : tie.Need-kept-requires
 kept-requires c κs = search needs
 
--- src/bench.rt:130:9
 returns : tie.Need-returns
 returns c = rw (c .kept .ensures) (sym (empty (c .before .before .before .before .before .args .bench) (c .before .before .before .before .before .args .bytes .now) (c .before .before .before .before .before .args .out .now) (c .before .before .before .before .before .args .request .now) (c .before .if1 .taken)))
 
--- src/bench.rt:132:21
 shared-slice-read-operation : tie.Need-shared-slice-read-operation
 shared-slice-read-operation c = search needs
 
--- src/bench.rt:133:16
 sub-args : tie.Need-sub-args
 sub-args c = search needs
 
--- src/bench.rt:133:16
 part-args-start : tie.Need-part-args-start
 part-args-start c = search needs
 
--- src/bench.rt:133:16
 part-args-end : tie.Need-part-args-end
 part-args-end c = search needs
 
--- src/bench.rt:134:9
 is-request-requires : tie.Need-is-request-requires
 is-request-requires c κs = search needs
 
--- src/bench.rt:135:9
 kept-requires-2 : tie.Need-kept-requires-2
 kept-requires-2 c κs = search needs
 
--- src/bench.rt:135:9
 returns-2 : tie.Need-returns-2
 returns-2 c = rw (c .kept2 .ensures) (sym (no-request (c .before .before .before .before .before .before .before .before .before .args .bench) (c .before .before .before .before .before .before .before .before .before .args .bytes .now) (c .before .before .before .before .before .before .before .before .before .args .out .now) _ (c .before .before .before .before .before .before .before .before .before .args .request .now) (c .before .before .before .before .before .if1 .left) (c .before .before .is-request .ensures) (c .before .if2 .taken)))
 
--- src/bench.rt:137:8
 is-image-requires : tie.Need-is-image-requires
 is-image-requires c κs = search needs
 
--- src/bench.rt:138:28
 respond-requires : tie.Need-respond-requires
 respond-requires c κs = search needs
 
--- src/bench.rt:138:9
 kept-requires-3 : tie.Need-kept-requires-3
 kept-requires-3 c κs = search needs
 
--- src/bench.rt:138:9
 same-length : tie.Need-same-length
 same-length c = search needs
 
--- src/bench.rt:138:9
 returns-3 : tie.Need-returns-3
 unfolding requestDone
 returns-3 c = a-request (c .before .before .before .before .before .before .before .before .before .before .before .before .before .before .before .args .bench) (c .before .before .before .before .before .before .before .before .before .before .before .before .before .before .before .args .bytes .now) (c .before .before .before .before .before .before .before .before .before .before .before .before .before .before .before .args .out .now) _ (c .before .before .before .before .before .before .before .before .before .before .before .before .before .before .before .args .request .now) (c .before .before .before .before .before .before .before .before .before .before .before .if1 .left) (c .before .before .before .before .before .before .before .before .is-request .ensures) (c .before .before .before .before .before .before .before .if2 .left) _ (simp (sym (c .before .before .before .before .before .before .is-image .ensures), c .before .before .before .before .before .if3 .taken, c .kept3 .ensures, c .before .before .before .respond .ensures .0, c .before .before .before .respond .ensures .1))
 
--- src/bench.rt:141:9
 change-desk-requires : tie.Need-change-desk-requires
 change-desk-requires c κs = search needs
 
--- src/bench.rt:141:9
 same-length-2 : tie.Need-same-length-2
 same-length-2 c = search needs
 
--- src/bench.rt:141:9
 same-length-3 : tie.Need-same-length-3
 same-length-3 c = search needs
 
--- src/bench.rt:141:9
 returns-4 : tie.Need-returns-4
 unfolding requestDone
 returns-4 c = a-request (c .before .before .before .before .before .before .before .before .before .before .before .before .before .before .before .before .before .before .args .bench) (c .before .before .before .before .before .before .before .before .before .before .before .before .before .before .before .before .before .before .args .bytes .now) (c .before .before .before .before .before .before .before .before .before .before .before .before .before .before .before .before .before .before .args .out .now) _ (c .before .before .before .before .before .before .before .before .before .before .before .before .before .before .before .before .before .before .args .request .now) (c .before .before .before .before .before .before .before .before .before .before .before .before .before .before .if1 .left) (c .before .before .before .before .before .before .before .before .before .before .before .is-request .ensures) (c .before .before .before .before .before .before .before .before .before .before .if2 .left) _ (simp (sym (c .before .before .before .before .before .before .before .before .before .is-image .ensures), c .before .before .before .before .before .before .before .before .if3 .left, lt-ltb _ _ (c .before .before .before .before .before .before .before .if4 .taken)) (c .before .before .before .before .change-desk .ensures))
 
--- src/bench.rt:143:5
 change-other-requires : tie.Need-change-other-requires
 change-other-requires c κs = search needs
 
--- src/bench.rt:126:1
 same-length-4 : tie.Need-same-length-4
 same-length-4 c = search needs
 
--- src/bench.rt:126:1
 returns-5 : tie.Need-returns-5
 unfolding requestDone
 returns-5 c = a-request (c .before .before .before .before .before .before .before .before .before .before .before .before .before .before .before .args .bench) (c .before .before .before .before .before .before .before .before .before .before .before .before .before .before .before .args .bytes .now) (c .before .before .before .before .before .before .before .before .before .before .before .before .before .before .before .args .out .now) _ (c .before .before .before .before .before .before .before .before .before .before .before .before .before .before .before .args .request .now) (c .before .before .before .before .before .before .before .before .before .before .before .if1 .left) (c .before .before .before .before .before .before .before .before .is-request .ensures) (c .before .before .before .before .before .before .before .if2 .left) _ (simp (sym (c .before .before .before .before .before .before .is-image .ensures), c .before .before .before .before .before .if3 .left, le-ltb _ _ (c .before .before .before .before .if4 .left)) (c .before .before .change-other .ensures (c .before .before .before .before .before .before .before .before .before .before .before .before .before .before .before .args .bytes .now)))

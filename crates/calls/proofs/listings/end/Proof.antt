@@ -1,3 +1,4 @@
+-- `calls::listings::end` meets its contract.
 use Rattle.calls.specs.Responses.{number8Bytes}
 use Rattle.calls.specs.Desks.{listingOf}
 use Rattle.lister.specs.Listing.{ending}
@@ -9,61 +10,42 @@ use Rattle.calls.proofs.Parts.{answered}
 use borrow.Author.Needs.{needs}
 use Rattle.calls.proofs.listings.end.Statement.{statement}
 use Rattle.calls.proofs.listings.end.Tie as tie
-use Rattle.calls.proofs.listings.end.Reads as reads
-use Rattle.calls.proofs.listings.end.Lts as lts
-use Rattle.calls.proofs.listings.end_over.Reads as end-over-reads
-use Rattle.calls.proofs.request.number.Reads as number-reads
-use Rattle.calls.proofs.request.rest.Reads as rest-reads
-use Rattle.calls.proofs.response.put_long.Reads as put-long-reads
-use Rattle.calls.proofs.response.put_outcome.Reads as put-outcome-reads
 
--- src/listings.rt:152:29
 number-requires : tie.Need-number-requires
 number-requires c κs = search needs
 
--- src/listings.rt:152:16
 add-size : tie.Need-add-size
 add-size c = search needs
 
--- src/listings.rt:154:9
 returns : tie.Need-returns
 returns c = (simp (sym (c .before .number .ensures .1), lt-ltb _ _ (c .if1 .taken)), simp (sym (c .before .number .ensures .1), lt-ltb _ _ (c .if1 .taken)))
 
--- src/listings.rt:156:33
 rest-requires : tie.Need-rest-requires
 rest-requires c κs = search needs
 
--- src/listings.rt:156:48
 sub-end-over : tie.Need-sub-end-over
 sub-end-over c = search needs
 
--- src/listings.rt:156:48
 part-end-over-start : tie.Need-part-end-over-start
 part-end-over-start c = search needs
 
--- src/listings.rt:156:48
 part-end-over-end : tie.Need-part-end-over-end
 part-end-over-end c = search needs
 
--- src/listings.rt:156:9
 end-over-requires : tie.Need-end-over-requires
 end-over-requires c κs = search needs
 
--- src/listings.rt:157:5
 put-outcome-requires : tie.Need-put-outcome-requires
 put-outcome-requires c κs = search needs
 
--- src/listings.rt:158:5
 put-long-requires : tie.Need-put-long-requires
 put-long-requires c κs = search needs
 
--- src/listings.rt:149:1
 same-length : tie.Need-same-length
 same-length c = search needs
 
--- src/listings.rt:149:1
 returns-2 : tie.Need-returns-2
-returns-2 c = 
+returns-2 c =
     let a = c .before .before .before .before .before .before .before .before .before .before .before .before .before .before .before .before .before .args in
     let room = c .before .before .before .before .before .before .before .before .before .before .before .before .before .before .number in
     let h = c .before .before .before .before .before .before .before .before .before .before .before .before .before .if1 .left in

@@ -1,3 +1,4 @@
+-- `calls::listings::list` meets its contract.
 use Rattle.calls.proofs.Desks.{list-done}
 use mathlib.Core.Path.{sym}
 use borrow.Author.Tests.{lt-ltb}
@@ -5,85 +6,58 @@ use Rattle.calls.proofs.Parts.{head-size}
 use borrow.Author.Needs.{needs}
 use Rattle.calls.proofs.listings.list.Statement.{statement}
 use Rattle.calls.proofs.listings.list.Tie as tie
-use Rattle.calls.proofs.listings.list.Reads as reads
-use Rattle.calls.proofs.listings.list.Lts as lts
-use Rattle.calls.proofs.listings.list_over.Reads as list-over-reads
-use Rattle.calls.proofs.listings.put_listed.Reads as put-listed-reads
-use Rattle.calls.proofs.listings.with_listing.Reads as with-listing-reads
-use Rattle.calls.proofs.request.number.Reads as number-reads
-use Rattle.calls.proofs.request.rest.Reads as rest-reads
-use Rattle.calls.proofs.stations.kept.Reads as kept-reads
-use Rattle.calls.proofs.stations.lent_size.Reads as lent-size-reads
 
--- src/listings.rt:123:29
 number-requires : tie.Need-number-requires
 number-requires c κs = search needs
 
--- src/listings.rt:123:16
 add-size : tie.Need-add-size
 add-size c = search needs
 
--- src/listings.rt:125:9
 kept-requires : tie.Need-kept-requires
 kept-requires c κs = search needs
 
--- src/listings.rt:125:9
 returns : tie.Need-returns
 returns c = simp (sym (c .before .before .number .ensures .1), lt-ltb _ _ (c .before .if1 .taken), c .kept .ensures)
 
--- src/listings.rt:127:9
 lent-size-requires : tie.Need-lent-size-requires
 lent-size-requires c κs = search needs
 
--- src/listings.rt:130:9
 slice-relend-prefix-list-over : tie.Need-slice-relend-prefix-list-over
 slice-relend-prefix-list-over c = search needs
 
--- src/listings.rt:130:9
 slice-aggregate-list-over : tie.Need-slice-aggregate-list-over
 slice-aggregate-list-over c = head-size _ _ (c .before .lent-size .ensures .0)
 
--- src/listings.rt:131:9
 rest-requires : tie.Need-rest-requires
 rest-requires c κs = search needs
 
--- src/listings.rt:132:9
 sub-list-over : tie.Need-sub-list-over
 sub-list-over c = search needs
 
--- src/listings.rt:132:9
 part-list-over-start : tie.Need-part-list-over-start
 part-list-over-start c = search needs
 
--- src/listings.rt:132:9
 part-list-over-end : tie.Need-part-list-over-end
 part-list-over-end c = search needs
 
--- src/listings.rt:128:9
 list-over-requires : tie.Need-list-over-requires
 list-over-requires c κs = search needs
 
--- src/listings.rt:134:5
 put-listed-requires : tie.Need-put-listed-requires
 put-listed-requires c κs = search needs
 
--- src/listings.rt:136:10
 with-listing-requires : tie.Need-with-listing-requires
 with-listing-requires c κs = search needs
 
--- src/listings.rt:136:5
 kept-requires-2 : tie.Need-kept-requires-2
 kept-requires-2 c κs = search needs
 
--- src/listings.rt:120:1
 same-length : tie.Need-same-length
 same-length c = search needs
 
--- src/listings.rt:120:1
 same-length-2 : tie.Need-same-length-2
 same-length-2 c = search needs
 
--- src/listings.rt:120:1
 returns-2 : tie.Need-returns-2
 returns-2 c = let a = c .before .before .before .before .before .before .before .before .before .before .before .before .before .before .before .before .before .before .before .before .before .before .args in list-done (a .desk) (a .args .now) (a .bytes .now) (a .out .now) _ _ _ _ _ (c .before .before .before .before .before .before .before .before .before .before .before .before .before .before .before .before .before .before .number .result) (c .before .before .before .before .before .before .before .before .before .before .before .list-over .result) _ _ (c .before .before .before .before .before .before .before .before .before .before .before .before .before .before .before .before .before .if1 .left) (c .before .before .before .before .before .before .before .before .before .before .before .before .before .before .before .lent-size .ensures .1) (c .before .before .before .before .before .before .before .before .before .before .before .before .before .before .before .before .before .before .number .ensures .1) (c .before .before .before .before .before .before .before .before .before .before .before .before .before .rest .ensures) (c .before .before .before .before .before .before .before .before .out .given .0) (c .before .before .before .before .before .before .before .before .before .before .before .list-over .ensures) (c .before .before .before .before .before .put-listed .ensures) (c .before .with-listing .ensures) (c .kept2 .ensures)
 

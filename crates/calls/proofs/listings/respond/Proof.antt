@@ -1,86 +1,62 @@
+-- `calls::listings::respond` meets its contract.
 use Rattle.calls.specs.Desks.{listingDone}
 use borrow.Author.Tests.{ne-eqb}
 use borrow.Author.Needs.{needs}
 use Rattle.calls.proofs.listings.respond.Statement.{statement}
 use Rattle.calls.proofs.listings.respond.Tie as tie
-use Rattle.calls.proofs.listings.respond.Reads as reads
-use Rattle.calls.proofs.listings.respond.Lts as lts
-use Rattle.calls.proofs.listings.count.Reads as count-reads
-use Rattle.calls.proofs.listings.end.Reads as end-reads
-use Rattle.calls.proofs.listings.list.Reads as list-reads
-use Rattle.calls.proofs.listings.set.Reads as set-reads
-use Rattle.calls.proofs.stations.kept.Reads as kept-reads
-use Rattle.lister.proofs.Listing.new.Reads as new-reads
 
--- src/listings.rt:167:30
 new-requires : tie.Need-new-requires
 new-requires c κs = search needs
 
--- src/listings.rt:167:20
 set-requires : tie.Need-set-requires
 set-requires c κs = search needs
 
--- src/listings.rt:168:19
 count-requires : tie.Need-count-requires
 count-requires c κs = search needs
 
--- src/listings.rt:169:17
 list-requires : tie.Need-list-requires
 list-requires c κs = search needs
 
--- src/listings.rt:170:27
 end-requires : tie.Need-end-requires
 end-requires c κs = search needs
 
--- src/listings.rt:170:16
 kept-requires : tie.Need-kept-requires
 kept-requires c κs = search needs
 
--- src/listings.rt:171:14
 kept-requires-2 : tie.Need-kept-requires-2
 kept-requires-2 c κs = search needs
 
--- src/listings.rt:163:1
 same-length : tie.Need-same-length
 same-length c = search needs
 
--- src/listings.rt:163:1
 returns : tie.Need-returns
 unfolding listingDone
 returns c = simp (c .before .before .before .before .before .match .keys1, c .before .before .before .before .new .ensures, c .before .before .set .ensures .0, c .before .before .set .ensures .1)
 
--- src/listings.rt:163:1
 same-length-2 : tie.Need-same-length-2
 same-length-2 c = search needs
 
--- src/listings.rt:163:1
 returns-2 : tie.Need-returns-2
 unfolding listingDone
 returns-2 c = simp (c .before .before .before .before .match .keys2, c .before .before .count .ensures .0, c .before .before .count .ensures .1)
 
--- src/listings.rt:163:1
 same-length-3 : tie.Need-same-length-3
 same-length-3 c = search needs
 
--- src/listings.rt:163:1
 same-length-4 : tie.Need-same-length-4
 same-length-4 c = search needs
 
--- src/listings.rt:163:1
 returns-3 : tie.Need-returns-3
 unfolding listingDone
 returns-3 c = simp (c .before .before .before .before .before .before .before .match .keys3) (c .before .before .before .before .list .ensures)
 
--- src/listings.rt:163:1
 same-length-5 : tie.Need-same-length-5
 same-length-5 c = search needs
 
--- src/listings.rt:163:1
 returns-4 : tie.Need-returns-4
 unfolding listingDone
 returns-4 c = simp (c .before .before .before .before .before .match .keys4, c .before .before .before .end .ensures .0, c .before .before .before .end .ensures .1, c .kept .ensures)
 
--- src/listings.rt:163:1
 returns-5 : tie.Need-returns-5
 unfolding listingDone
 returns-5 c = simp (ne-eqb _ _ (c .before .match .rest .1), ne-eqb _ _ (c .before .match .rest .0 .1), ne-eqb _ _ (c .before .match .rest .0 .0 .1), ne-eqb _ _ (c .before .match .rest .0 .0 .0 .1), c .kept2 .ensures)

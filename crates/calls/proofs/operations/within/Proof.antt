@@ -2,10 +2,10 @@
 use Prim.Native.Nat.{ℕ}
 use mathlib.Core.Path.{_≡_, refl}
 use mathlib.Core.List.{[], _∷_}
-use lib.Dec.{eqb, leb}
+use lib.Dec.{leb}
 use Rattle.format.specs.Tests.{allTrue, allAfter}
 use Rattle.calls.proofs.Rules.{at-one, not-among}
-use Rattle.calls.specs.Requests.{byteAt, number2At}
+use Rattle.calls.specs.Requests.{byteAt}
 use Rattle.calls.specs.Operations.{among, ruled, stationArgs, otherArgs}
 use borrow.Author.Needs.{needs}
 use Rattle.calls.proofs.operations.within.Statement.{statement}

@@ -1,11 +1,7 @@
 -- `calls::operations::within_others` meets its contract: an arm is a rule, and an operation without one is in none of them.
-use Prim.Native.Nat.{ℕ}
-use mathlib.Core.Path.{_≡_, refl}
 use mathlib.Core.List.{[], _∷_}
-use lib.Dec.{eqb, leb}
 use Rattle.format.specs.Tests.{allTrue, allAfter}
-use Rattle.calls.proofs.Rules.{at-one, not-among}
-use Rattle.calls.specs.Requests.{byteAt, number2At}
+use Rattle.calls.proofs.Rules.{not-among}
 use Rattle.calls.specs.Operations.{among, ruled, otherArgs}
 use borrow.Author.Needs.{needs}
 use Rattle.calls.proofs.operations.within_others.Statement.{statement}

@@ -1,8 +1,8 @@
 -- `calls::request::number` meets its contract: past the end both of its bytes are 0.
-use Prim.Native.Nat.{ℕ, _+_, _≤_}
+use Prim.Native.Nat.{_+_}
 use mathlib.Core.List.{List}
 use native.Mathlib.Omega.{arith}
-use lib.ListN.{length, List·getD-eq-default}
+use lib.ListN.{List·getD-eq-default}
 use borrow.Author.Needs.{needs}
 use Rattle.calls.proofs.request.number.Statement.{statement}
 use Rattle.calls.proofs.request.number.Tie as tie

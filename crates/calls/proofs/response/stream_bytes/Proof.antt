@@ -1,7 +1,7 @@
 -- `calls::response::stream_bytes` meets its contract.
 use Prim.Native.Nat.{ℕ}
 use mathlib.Core.Path.{_≡_, refl}
-use mathlib.Core.List.{List, [], _∷_, _++_}
+use mathlib.Core.List.{[], _∷_, _++_}
 use lib.ListN.{getD}
 use Rattle.format.specs.declared.Fields.{Fields}
 use Rattle.format.specs.declared.Fields.the-variants.{Extended, Standard}

@@ -1,5 +1,4 @@
 -- `calls::stations::close` meets its contract.
-use mathlib.Core.Path.{sym}
 use borrow.Author.Needs.{needs}
 use Rattle.calls.proofs.stations.close.Statement.{statement}
 use Rattle.calls.proofs.stations.close.Tie as tie
@@ -20,7 +19,7 @@ same-length : tie.Need-same-length
 same-length c = search needs
 
 returns : tie.Need-returns
-returns c = (simp (sym (c .before .before .before .before .before .byte .ensures), sym (c .before .before .before .before .close .ensures), c .before .before .put-changed .ensures .0), simp (sym (c .before .before .before .before .before .byte .ensures), sym (c .before .before .before .before .close .ensures), c .before .before .put-changed .ensures .1))
+returns c = λ bytes. rw (← c .before .before .before .before .before .byte .ensures, ← c .before .before .before .before .close .ensures) (c .before .before .put-changed .ensures bytes)
 
 pub close-spec : {M : Type 1} → statement M
 close-spec =

@@ -16,7 +16,7 @@ same-length : tie.Need-same-length
 same-length c = search needs
 
 returns : tie.Need-returns
-returns c = (simp (c .before .before .before .before .before .number .ensures .1, c .before .before .before .put-value .ensures, c .kept .ensures), simp (c .before .before .before .before .before .number .ensures .1, c .before .before .before .put-value .ensures, c .kept .ensures))
+returns c = λ bytes. simp (c .before .before .before .before .before .number .ensures .1, c .before .before .before .put-value .ensures, c .kept .ensures)
 
 pub lend-spec : {M : Type 1} → statement M
 lend-spec =

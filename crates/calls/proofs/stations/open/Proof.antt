@@ -1,5 +1,4 @@
 -- `calls::stations::open` meets its contract.
-use mathlib.Core.Path.{sym}
 use borrow.Author.Needs.{needs}
 use Rattle.calls.proofs.stations.open.Statement.{statement}
 use Rattle.calls.proofs.stations.open.Tie as tie
@@ -17,7 +16,7 @@ same-length : tie.Need-same-length
 same-length c = search needs
 
 returns : tie.Need-returns
-returns c = (simp (sym (c .before .before .before .before .before .key .ensures), sym (c .before .before .before .before .«open» .ensures), c .before .before .put-changed .ensures .0), simp (sym (c .before .before .before .before .before .key .ensures), sym (c .before .before .before .before .«open» .ensures), c .before .before .put-changed .ensures .1))
+returns c = λ bytes. rw (← c .before .before .before .before .before .key .ensures, ← c .before .before .before .before .«open» .ensures) (c .before .before .put-changed .ensures bytes)
 
 pub open-spec : {M : Type 1} → statement M
 open-spec =

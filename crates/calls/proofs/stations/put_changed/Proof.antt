@@ -13,7 +13,7 @@ same-length : tie.Need-same-length
 same-length c = search needs
 
 returns : tie.Need-returns
-returns c = (c .before .before .changed .ensures .0, simp (c .before .before .before .before .before .before .put-outcome .ensures, c .before .before .changed .ensures .1, c .before .before .changed .ensures .0))
+returns c = λ bytes. simp (c .before .before .before .before .before .before .put-outcome .ensures, c .before .before .changed .ensures .1, c .before .before .changed .ensures .0)
 
 pub put-changed-spec : {M : Type 1} → statement M
 put-changed-spec = tie.close (tie.spec put-outcome-requires changed-requires same-length returns)

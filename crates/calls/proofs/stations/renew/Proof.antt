@@ -29,7 +29,7 @@ same-length-2 : tie.Need-same-length-2
 same-length-2 c = search needs
 
 returns : tie.Need-returns
-returns c = (simp (c .before .before .before .before .before .before .before .before .before .before .put-value .ensures, c .before .before .before .before .before .before .before .byte .ensures, c .before .before .before .before .before .before .format-of .ensures, c .before .before .before .before .before .new .ensures, c .before .before .changed .ensures .1, c .before .before .changed .ensures .0), (c .before .before .before .before .before .before .before .before .before .before .before .before .before .before .fill .ensures .0 refl, simp (c .before .before .before .before .before .before .before .before .before .before .put-value .ensures, c .before .before .before .before .before .before .before .byte .ensures, c .before .before .before .before .before .before .format-of .ensures, c .before .before .before .before .before .new .ensures, c .before .before .changed .ensures .1, c .before .before .changed .ensures .0)))
+returns c = simp (c .before .before .before .before .before .before .before .before .before .before .put-value .ensures, c .before .before .before .before .before .before .before .byte .ensures, c .before .before .before .before .before .before .format-of .ensures, c .before .before .before .before .before .new .ensures, c .before .before .changed .ensures .1, c .before .before .changed .ensures .0, c .before .before .before .before .before .before .before .before .before .before .before .before .before .before .fill .ensures .0 refl)
 
 pub renew-spec : {M : Type 1} → statement M
 renew-spec =

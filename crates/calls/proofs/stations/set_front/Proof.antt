@@ -16,7 +16,7 @@ same-length : tie.Need-same-length
 same-length c = search needs
 
 returns : tie.Need-returns
-returns c = (simp (c .before .before .before .before .put-value .ensures, c .before .byte .ensures, c .kept .ensures), simp (c .before .before .before .before .put-value .ensures, c .before .byte .ensures, c .kept .ensures))
+returns c = λ bytes. simp (c .before .before .before .before .put-value .ensures, c .before .byte .ensures, c .kept .ensures)
 
 pub set-front-spec : {M : Type 1} → statement M
 set-front-spec =
