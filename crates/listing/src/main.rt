@@ -6,7 +6,10 @@ use lister::Why;
 use trace::Line;
 ghost use mathlib.Core.Path.{_≡_};
 ghost use Prim.Native.Nat.{_≤_};
-ghost use lib.ListN.{length};
+ghost use mathlib.Core.Bool.{false};
+ghost use lib.ListN.{length, take};
+ghost use Rattle.packet.specs.Send.{outputAfter};
+ghost use Rattle.lister.specs.Listing as listings;
 
 // Between two reads: the listing, and how many bytes of the input are held that are no whole record.
 struct Session {
@@ -24,7 +27,7 @@ fn write(answer: Outcome, output: &[u8]) -> bool {
 }
 
 fn ended(listing: Listing) -> Session
-    ensures { λ r. ⌜ r .held ≡ 0 ⌝ }
+    ensures { λ r. ⌜ r ≡ record { listing = listing; held = 0; going = false } ⌝ }
 {
     Session {
         listing: listing,
@@ -35,7 +38,8 @@ fn ended(listing: Listing) -> Session
 
 // The last lines, where no more comes than what is left of the input.
 fn end(listing: Listing, rest: &[u8], output: &mut [u8]) -> Session
-    ensures { λ r. ⌜ r .held ≡ 0 ⌝ }
+    ensures { λ r. ⌜ r ≡ record { listing = listing; held = 0; going = false } ⌝ }
+    ensures { λ _. ⌜ now (output .exit) ≡ outputAfter (listings.ending listing (now (rest .entry)) (length (now (output .entry)))) (now (output .entry)) ⌝ }
 {
     let answer = listing.end(rest, output);
     write(answer, output);
@@ -46,6 +50,7 @@ fn end(listing: Listing, rest: &[u8], output: &mut [u8]) -> Session
 fn more(listing: Listing, input: &mut [u8], held: usize, output: &mut [u8]) -> Session
     requires { ⌜ held ≤ length (now input) ⌝ }
     ensures { λ r. ⌜ r .held ≤ length (now (input .entry)) ⌝ }
+    ensures { λ r. ⌜ r .listing ≡ listing ⌝ }
 {
     let all = pipes::read_on(input, held);
     if all == held {
@@ -63,10 +68,12 @@ fn more(listing: Listing, input: &mut [u8], held: usize, output: &mut [u8]) -> S
 fn turn(session: Session, store: &mut [u8], input: &mut [u8], output: &mut [u8]) -> Session
     requires { ⌜ session .held ≤ length (now input) ⌝ }
     ensures { λ r. ⌜ r .held ≤ length (now (input .entry)) ⌝ }
+    ensures { λ r. ⌜ r .listing ≡ listings.listing (session .listing) (now (store .entry)) (take (session .held) (now (input .entry))) (now (output .entry)) .listing ⌝ }
+    ensures { λ _. ⌜ now (store .exit) ≡ listings.listing (session .listing) (now (store .entry)) (take (session .held) (now (input .entry))) (now (output .entry)) .store ⌝ }
 {
     let listing = session.listing;
     let held = session.held;
-    let listed = listing.list(store, &input[0..held], output);
+    let listed = listing.list(store, &input[..held], output);
     let listing = listed.listing;
     let why = listed.why;
     // No one is there to read it, or it cannot be written.

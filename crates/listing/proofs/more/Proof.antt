@@ -1,4 +1,6 @@
 -- `listing::more` meets its contract: what is held stays within the input.
+use native.Mathlib.Omega.{arith}
+use mathlib.Core.Path.{refl}
 use borrow.Author.Needs.{needs}
 use Rattle.listing.proofs.more.Statement.{statement}
 use Rattle.listing.proofs.more.Tie as tie
@@ -25,13 +27,13 @@ same-length-2 : tie.Need-same-length-2
 same-length-2 c = search needs
 
 returns : tie.Need-returns
-returns c = search needs
+returns c = rw (c .before .before .end .ensures .0) (omega arith, refl)
 
 same-length-3 : tie.Need-same-length-3
 same-length-3 c = search needs
 
 returns-2 : tie.Need-returns-2
-returns-2 c = c .before .before .before .read-on .ensures .more (c .before .before .before .before .before .before .before .pre) .1
+returns-2 c = (c .before .before .before .read-on .ensures .more (c .before .before .before .before .before .before .before .pre) .1, refl)
 
 pub more-spec : {M : Type 1} → statement M
 more-spec =
