@@ -16,8 +16,8 @@ use Rattle.lister.specs.Listing as listings
 use Rattle.calls.specs.declared.stations.Desk.{Desk}
 use Rattle.calls.specs.declared.stations.Done.{Done}
 use Rattle.calls.specs.Requests.{number2At, bytesFrom}
-use Rattle.calls.specs.Responses.{replyBytes, reasonBytes, number2Bytes, number8Bytes, withSlots}
-use Rattle.calls.specs.Desks.{asDone, lentSize, storeOf, withStation, received, listingOf, withListing, listedBy}
+use Rattle.calls.specs.Responses.{replyBytes, reasonBytes, number2Bytes, number8Bytes, outWithSlots}
+use Rattle.calls.specs.Desks.{asDone, lentSize, storeOf, withStation, received, listingOf, withListing, partListed}
 use Rattle.calls.proofs.Parts.{part-size, part-back}
 
 -- what `put_listed` writes
@@ -33,7 +33,7 @@ pub receive-done : (desk : Desk) (bytes out store image image′ out′ out″ :
     → after r store ≡ receive (desk .station) (take n bytes) bus′ image′
     → out′ ≡ copied out 0 (replyBytes (meaning (r .answer)))
     → done ≡ record { desk = withStation desk (r .station); size = 164 }
-    → out″ ≡ withSlots out′ 4 (r .station .slots)
+    → out″ ≡ outWithSlots out′ 4 (r .station .slots)
     → asDone done (store ++ drop n bytes) out″ ≡ received (receive (desk .station) (storeOf desk bytes) bus image) desk bytes out
 receive-done desk bytes out store image image′ out′ out″ r n bus bus′ done n-is bus-is image-is after-is out′-is done-is out″-is =
     rw (sym n-is) (rw (sym bus-is) (rw (sym image-is) (rw (sym after-is) (rw done-is (rw out″-is (rw out′-is refl))))))
@@ -48,7 +48,7 @@ pub list-done : (desk : Desk) (args bytes out store part input out′ : List ℕ
     → out′ ≡ sizesIn r (putMid 16 (16 + room - 16) out part)
     → next ≡ withListing desk (r .listing)
     → done ≡ record { desk = next; size = 16 + room }
-    → asDone done (store ++ drop n bytes) out′ ≡ listedBy args desk bytes out
+    → asDone done (store ++ drop n bytes) out′ ≡ partListed args desk bytes out
 list-done desk args bytes out store part input out′ n room r next done h n-is room-is input-is length-is after-is out′-is next-is done-is =
     let m : 16 + room - 16 ≡ room = omega arith in
     let s : length (midOf 16 (16 + room - 16) out) ≡ room = rw m (part-size out 16 room h) in

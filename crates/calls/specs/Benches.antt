@@ -8,7 +8,7 @@ use Rattle.copying.specs.Copy.{copied}
 use Rattle.format.specs.Tests.{allTrue}
 use Rattle.calls.specs.declared.bench.Bench.{Bench}
 use Rattle.calls.specs.declared.bench.Done.{Done}
-use Rattle.calls.specs.Responses.{Responded, withMaster, withWatch}
+use Rattle.calls.specs.Responses.{Responded, outWithMaster, outWithWatch}
 use Rattle.calls.specs.Operations.{isRequest, masterDone, watchDone}
 use Rattle.calls.specs.Images.{imageDone}
 use Rattle.calls.specs.Desks.{DeskDone, stationDone, listingDone}
@@ -54,12 +54,12 @@ otherDone operation args bench bytes out =
     (record {
       bench = record { desk = bench .desk; master = exchange .master; watch = bench .watch };
       bytes = bytes;
-      response = record { size = 71; output = withMaster (copied out 0 (exchange .answer)) (exchange .master) };
+      response = record { size = 71; output = outWithMaster (copied out 0 (exchange .answer)) (exchange .master) };
     })
     (record {
       bench = record { desk = bench .desk; master = bench .master; watch = watched .watch };
       bytes = bytes;
-      response = record { size = 12; output = withWatch (copied out 0 (watched .answer)) (watched .watch) };
+      response = record { size = 12; output = outWithWatch (copied out 0 (watched .answer)) (watched .watch) };
     })
 
 unfoldable pub requestDone : ℕ → List ℕ → Bench → (bytes out : List ℕ) → BenchDone

@@ -16,7 +16,7 @@ use Rattle.calls.specs.declared.stations.Done.{Done}
 use Rattle.lister.specs.declared.Listing.{Listing}
 use Rattle.lister.specs.Listing.{AfterListing, newListing, listing, ending}
 use Rattle.calls.specs.Requests.{byteAt, number2At, number8At, bytesBetween, bytesFrom, formatNamed, keyAt, slotNamed}
-use Rattle.calls.specs.Responses.{answerBytes, outcomeBytes, replyBytes, reasonBytes, number2Bytes, number8Bytes, withSlots, stepped}
+use Rattle.calls.specs.Responses.{answerBytes, outcomeBytes, replyBytes, reasonBytes, number2Bytes, number8Bytes, outWithSlots, filledBytes}
 use Rattle.calls.specs.Responses.{Responded, roomFor, answerAlone, lentIn}
 
 -- the desk after a request, the bytes, and the response
@@ -45,7 +45,7 @@ withStation desk station = record { station = station; lent = desk .lent; front 
 -- "answer, slots"
 abbrev pub withAnswer : Desk → (bytes answer out : List ℕ) → DeskDone
 withAnswer desk bytes answer out =
-    record { desk = desk; bytes = bytes; response = record { size = 164; output = withSlots (copied out 0 answer) 4 (desk .station .slots) } }
+    record { desk = desk; bytes = bytes; response = record { size = 164; output = outWithSlots (copied out 0 answer) 4 (desk .station .slots) } }
 
 abbrev pub withResponse : Desk → (bytes : List ℕ) → Responded → DeskDone
 withResponse desk bytes response = record { desk = desk; bytes = bytes; response = response }
@@ -55,8 +55,8 @@ abbrev pub unanswered : Desk → (bytes out : List ℕ) → DeskDone
 unanswered desk bytes out = withResponse desk bytes (record { size = 0; output = out })
 
 -- 1 NEW: "the station becomes a new one of that format, all bytes 0, `lent` 32,768, front 0"
-abbrev pub renewed : List ℕ → Desk → (bytes out : List ℕ) → DeskDone
-renewed args desk bytes out =
+abbrev pub deskRenewed : List ℕ → Desk → (bytes out : List ℕ) → DeskDone
+deskRenewed args desk bytes out =
     withAnswer
     (record { station = stations.newStation (formatNamed (byteAt args 0)); lent = 32768; front = 0; count = desk .count })
     (replicate (length bytes) 0)
@@ -109,7 +109,7 @@ bytesShown args bytes out =
 -- 11 FILL
 abbrev pub refilled : List ℕ → Desk → (bytes out : List ℕ) → DeskDone
 refilled args desk bytes out =
-    withResponse desk (stepped (length bytes) (byteAt args 0) (byteAt args 1)) (answerAlone (answerBytes 5 0 0) out)
+    withResponse desk (filledBytes (length bytes) (byteAt args 0) (byteAt args 1)) (answerAlone (answerBytes 5 0 0) out)
 
 -- those that leave the desk as it is; another operation has an empty response
 unfoldable pub keepingDone : ℕ → List ℕ → Desk → (bytes out : List ℕ) → DeskDone
@@ -121,7 +121,7 @@ keepingDone operation args desk bytes out =
 unfoldable pub stationDone : ℕ → List ℕ → Desk → (bytes out : List ℕ) → DeskDone
 stationDone operation args desk bytes out =
     let station = desk .station in
-    cond (eqb operation 1) (renewed args desk bytes out)
+    cond (eqb operation 1) (deskRenewed args desk bytes out)
     (cond (eqb operation 2) (changed (opening station (keyAt args 0)) desk bytes out)
     (cond (eqb operation 3) (changed (closing station (byteAt args 0)) desk bytes out)
     (cond (eqb operation 4) (received (receive station (storeOf desk bytes) (byteAt args 0) (bytesFrom args 1)) desk bytes out)
@@ -158,8 +158,8 @@ withSizes after out =
     copied (copied counted 12 (number2Bytes (after .used))) 14 (number2Bytes (after .written))
 
 -- "lists the part in an output of `room` bytes, which before the call are all '-'"
-abbrev pub listedBy : List ℕ → Desk → (bytes out : List ℕ) → DeskDone
-listedBy args desk bytes out =
+abbrev pub partListed : List ℕ → Desk → (bytes out : List ℕ) → DeskDone
+partListed args desk bytes out =
     let room = number2At args 0 in
     let after = listing (listingOf desk) (storeOf desk bytes) (bytesFrom args 2) (replicate room 45) in
     cond (ltb (length out) (16 + room)) (unanswered desk bytes out)
@@ -169,8 +169,8 @@ listedBy args desk bytes out =
     (record { size = 16 + room; output = withSizes after out }))
 
 -- 22 END: "ends the listing in such an output"; "answer (the length written), count (8 bytes), then all `room` bytes"
-abbrev pub endedBy : List ℕ → Desk → (out : List ℕ) → Responded
-endedBy args desk out =
+abbrev pub listingEnded : List ℕ → Desk → (out : List ℕ) → Responded
+listingEnded args desk out =
     let room = number2At args 0 in
     let text = ending (listingOf desk) (bytesFrom args 2) room in
     roomFor (12 + room) out (copied (lentIn 12 text room 45 out) 4 (number8Bytes (desk .count)))
@@ -179,5 +179,5 @@ unfoldable pub listingDone : ℕ → List ℕ → Desk → (bytes out : List ℕ
 listingDone operation args desk bytes out =
     cond (eqb operation 19) (listingSet newListing desk bytes out)
     (cond (eqb operation 20) (listingSet (record { slots = desk .station .slots; count = number8At args 0 }) desk bytes out)
-    (cond (eqb operation 21) (listedBy args desk bytes out)
-    (cond (eqb operation 22) (withResponse desk bytes (endedBy args desk out)) (unanswered desk bytes out))))
+    (cond (eqb operation 21) (partListed args desk bytes out)
+    (cond (eqb operation 22) (withResponse desk bytes (listingEnded args desk out)) (unanswered desk bytes out))))

@@ -11,7 +11,7 @@ use Rattle.master.specs.Masters.{newMaster}
 use Rattle.master.specs.Exchanges.{MasterAfter, starting, replying, timingOut}
 use Rattle.watch.specs.declared.Watch.{Watch}
 use Rattle.watch.specs.Watching.{newWatch, hearing, checking}
-use Rattle.calls.specs.Requests.{byteAt, number2At, number4At, kindNamed, masterIn}
+use Rattle.calls.specs.Requests.{byteAt, number2At, number4At, kindNamed, masterNamed}
 use Rattle.calls.specs.Responses.{answerBytes, outcomeBytes, toldBytes, resetsOf}
 
 -- operations, and what their requests have to meet
@@ -97,7 +97,7 @@ asSet master = record { answer = answerBytes 5 0 0; master = master }
 unfoldable pub masterDone : ℕ → List ℕ → Master → MasterDone
 masterDone operation args master =
     cond (eqb operation 23) (asSet newMaster)
-    (cond (eqb operation 24) (asSet (masterIn args))
+    (cond (eqb operation 24) (asSet (masterNamed args))
     (cond (eqb operation 25) (asCalled (starting master (kindNamed (byteAt args 0)) (byteAt args 1)))
     (cond (eqb operation 26) (asCalled (replying master (byteAt args 0) (byteAt args 1) (byteAt args 2)))
     (asCalled (timingOut master)))))

@@ -69,8 +69,8 @@ unfoldable pub activityNamed : (kind node sends : ℕ) → Activity
 activityNamed kind node sends =
     cond (eqb kind 0) activity.Idle (activity.UnderWay (record { kind = kindNamed kind; node = node; sends = sends }))
 
-unfoldable pub masterIn : List ℕ → Master
-masterIn args =
+unfoldable pub masterNamed : List ℕ → Master
+masterNamed args =
     record {
       chosen = set (replicate 64 0) (byteAt args 0 % 64) (byteAt args 1);
       activity = activityNamed (byteAt args 2) (byteAt args 3) (byteAt args 4);

@@ -26,11 +26,11 @@ use Rattle.slot.specs.declared.Occupancy.the-variants.{Closed, Open}
 use Rattle.slot.specs.declared.Slot.{Slot}
 
 -- "A number that a call answers or hands back is 65,535 in two bytes if it is larger, which none is."
-unfoldable pub shown : ℕ → ℕ
-shown n = cond (ltb 65535 n) 65535 n
+unfoldable pub capped : ℕ → ℕ
+capped n = cond (ltb 65535 n) 65535 n
 
 unfoldable pub number2Bytes : ℕ → List ℕ
-number2Bytes n = shown n / 256 ∷ shown n % 256 ∷ []
+number2Bytes n = capped n / 256 ∷ capped n % 256 ∷ []
 
 unfoldable pub number4Bytes : ℕ → List ℕ
 number4Bytes n = n / 16777216 ∷ n / 65536 % 256 ∷ n / 256 % 256 ∷ n % 256 ∷ []
@@ -39,9 +39,9 @@ unfoldable pub number8Bytes : ℕ → List ℕ
 number8Bytes n = number4Bytes (n / 4294967296) ++ number4Bytes (n % 4294967296)
 
 -- FILL: "byte i of the 40,000 becomes (seed + i × step) modulo 256"
-unfoldable pub stepped : (n first step : ℕ) → List ℕ
-stepped zero first step = []
-stepped (suc n) first step = first ∷ stepped n ((first + step) % 256) step
+unfoldable pub filledBytes : (n first step : ℕ) → List ℕ
+filledBytes zero first step = []
+filledBytes (suc n) first step = first ∷ filledBytes n ((first + step) % 256) step
 
 -- "An answer is four bytes: its kind, a two-byte number, and one byte more"
 unfoldable pub answerBytes : (kind n more : ℕ) → List ℕ
@@ -78,9 +78,9 @@ occupancyBytes Closed = replicate 10 0
 occupancyBytes (Open stream) = progressBytes (stream .progress) (stream .key .bus) ++ fieldBytes (stream .key .fields)
 
 -- an output with slots written from a place on, one after the other
-unfoldable pub withSlots : List ℕ → (at : ℕ) → List Slot → List ℕ
-withSlots out at [] = out
-withSlots out at (slot ∷ slots) = withSlots (copied out at (occupancyBytes (slot .occupancy))) (at + 10) slots
+unfoldable pub outWithSlots : List ℕ → (at : ℕ) → List Slot → List ℕ
+outWithSlots out at [] = out
+outWithSlots out at (slot ∷ slots) = outWithSlots (copied out at (occupancyBytes (slot .occupancy))) (at + 10) slots
 
 -- 6 send: the bus. 7 done. 8 gave up
 abbrev pub toldBytes : Result Told → List ℕ
@@ -110,16 +110,16 @@ kindByte Poll = 1
 kindByte DataBlock = 2
 kindByte Command = 3
 
-abbrev pub activityBytes : Activity → List ℕ
-activityBytes activity.Idle = 0 ∷ 0 ∷ 0 ∷ []
-activityBytes (activity.UnderWay exchange) = kindByte (exchange .kind) ∷ exchange .node ∷ exchange .sends ∷ []
+abbrev pub exchangeBytes : Activity → List ℕ
+exchangeBytes activity.Idle = 0 ∷ 0 ∷ 0 ∷ []
+exchangeBytes (activity.UnderWay exchange) = kindByte (exchange .kind) ∷ exchange .node ∷ exchange .sends ∷ []
 
 -- an output with a master, a watch written after the answer
-unfoldable pub withMaster : List ℕ → Master → List ℕ
-withMaster out master = copied (copied out 4 (activityBytes (master .activity))) 7 (master .chosen)
+unfoldable pub outWithMaster : List ℕ → Master → List ℕ
+outWithMaster out master = copied (copied out 4 (exchangeBytes (master .activity))) 7 (master .chosen)
 
-unfoldable pub withWatch : List ℕ → Watch → List ℕ
-withWatch out watch = copied (copied out 4 (number4Bytes (watch .a))) 8 (number4Bytes (watch .b))
+unfoldable pub outWithWatch : List ℕ → Watch → List ℕ
+outWithWatch out watch = copied (copied out 4 (number4Bytes (watch .a))) 8 (number4Bytes (watch .b))
 
 -- 1 if A is to be reset, and 2 more if B is
 unfoldable pub resetsOf : (a b : Bool) → ℕ

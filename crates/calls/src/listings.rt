@@ -117,7 +117,7 @@ fn list_over(desk: Desk, store: &mut [u8], input: &[u8], output: &mut [u8]) -> L
 
 // The output lent to the call is the part of the response after what it hands back.
 fn list(desk: Desk, bytes: &mut [u8], args: &[u8], out: &mut [u8]) -> Done
-    ensures { λ r. ⌜ asDone r (now (bytes .exit)) (now (out .exit)) ≡ desks.listedBy (now (args .entry)) desk (now (bytes .entry)) (now (out .entry)) ⌝ }
+    ensures { λ r. ⌜ asDone r (now (bytes .exit)) (now (out .exit)) ≡ desks.partListed (now (args .entry)) desk (now (bytes .entry)) (now (out .entry)) ⌝ }
 {
     let size = WITH_SIZES + number(args, 0);
     if size > out.len() {
@@ -146,8 +146,8 @@ fn end_over(desk: Desk, input: &[u8], output: &mut [u8]) -> Outcome
 }
 
 fn end(desk: Desk, args: &[u8], out: &mut [u8]) -> usize
-    ensures { λ r. ⌜ r ≡ desks.endedBy (now (args .entry)) desk (now (out .entry)) .size ⌝ }
-    ensures { λ _. ⌜ now (out .exit) ≡ desks.endedBy (now (args .entry)) desk (now (out .entry)) .output ⌝ }
+    ensures { λ r. ⌜ r ≡ desks.listingEnded (now (args .entry)) desk (now (out .entry)) .size ⌝ }
+    ensures { λ _. ⌜ now (out .exit) ≡ desks.listingEnded (now (args .entry)) desk (now (out .entry)) .output ⌝ }
 {
     let size = WITH_COUNT + number(args, 0);
     if size > out.len() {

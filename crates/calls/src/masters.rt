@@ -18,8 +18,8 @@ ghost use mathlib.Core.Path.{_≡_};
 ghost use mathlib.Core.List.{[], _∷_};
 ghost use Rattle.copying.specs.Copy.{copied};
 ghost use Rattle.master.specs.Exchanges as exchanges;
-ghost use Rattle.calls.specs.Requests.{activityNamed, masterIn};
-ghost use Rattle.calls.specs.Responses.{answerBytes, toldBytes, kindByte, activityBytes, withMaster};
+ghost use Rattle.calls.specs.Requests.{activityNamed, masterNamed};
+ghost use Rattle.calls.specs.Responses.{answerBytes, toldBytes, kindByte, exchangeBytes, outWithMaster};
 ghost use Rattle.calls.specs.Operations.{masterDone};
 
 // Where the chosen buses stand in a response, after the answer and the exchange.
@@ -52,7 +52,7 @@ fn put_exchange(out: &mut [u8], kind: u8, node: u8, sends: u8)
 }
 
 fn put_activity(out: &mut [u8], activity: Activity)
-    ensures { λ _. ⌜ now (out .exit) ≡ copied (now (out .entry)) 4 (activityBytes activity) ⌝ }
+    ensures { λ _. ⌜ now (out .exit) ≡ copied (now (out .entry)) 4 (exchangeBytes activity) ⌝ }
 {
     match activity {
         Activity::Idle => put_exchange(out, 0, 0, 0),
@@ -66,7 +66,7 @@ fn put_activity(out: &mut [u8], activity: Activity)
 // The response to a call: the answer, which is written already, and the master.
 fn changed(master: Master, out: &mut [u8]) -> Done
     ensures { λ r. ⌜ r ≡ record { master = master; size = 71 } ⌝ }
-    ensures { λ _. ⌜ now (out .exit) ≡ withMaster (now (out .entry)) master ⌝ }
+    ensures { λ _. ⌜ now (out .exit) ≡ outWithMaster (now (out .entry)) master ⌝ }
 {
     let chosen = master.chosen;
     let activity = master.activity;
@@ -92,7 +92,7 @@ fn put_moved(out: &mut [u8], answer: Answer)
 // What a call answers and hands back.
 fn moved(moved: Moved, out: &mut [u8]) -> Done
     ensures { λ r. ⌜ r ≡ record { master = moved .master; size = 71 } ⌝ }
-    ensures { λ _. ⌜ now (out .exit) ≡ withMaster (copied (now (out .entry)) 0 (toldBytes (exchanges.meaning (moved .answer)))) (moved .master) ⌝ }
+    ensures { λ _. ⌜ now (out .exit) ≡ outWithMaster (copied (now (out .entry)) 0 (toldBytes (exchanges.meaning (moved .answer)))) (moved .master) ⌝ }
 {
     let answer = moved.answer;
     let next = moved.master;
@@ -103,7 +103,7 @@ fn moved(moved: Moved, out: &mut [u8]) -> Done
 // A master that no call has moved: a new one, or one by hand.
 fn set(master: Master, out: &mut [u8]) -> Done
     ensures { λ r. ⌜ r ≡ record { master = master; size = 71 } ⌝ }
-    ensures { λ _. ⌜ now (out .exit) ≡ withMaster (copied (now (out .entry)) 0 (answerBytes 5 0 0)) master ⌝ }
+    ensures { λ _. ⌜ now (out .exit) ≡ outWithMaster (copied (now (out .entry)) 0 (answerBytes 5 0 0)) master ⌝ }
 {
     put_value(out, 0);
     changed(master, out)
@@ -125,7 +125,7 @@ fn activity_of(kind: u8, node: u8, sends: u8) -> Activity
 
 // A master by hand: A chosen for every node but one, and an exchange or none.
 fn by_hand(args: &[u8]) -> Master
-    ensures { λ r. ⌜ r ≡ masterIn (now (args .entry)) ⌝ }
+    ensures { λ r. ⌜ r ≡ masterNamed (now (args .entry)) ⌝ }
 {
     let node = (byte(args, 0) % 64) as usize;
     let mut chosen = [0u8; 64];
@@ -140,7 +140,7 @@ fn by_hand(args: &[u8]) -> Master
 // Does what a request on a master asks for, and writes the response.
 pub fn respond(master: Master, operation: u8, args: &[u8], out: &mut [u8]) -> Done
     ensures { λ r. ⌜ r ≡ record { master = masterDone operation (now (args .entry)) master .master; size = 71 } ⌝ }
-    ensures { λ _. ⌜ now (out .exit) ≡ withMaster (copied (now (out .entry)) 0 (masterDone operation (now (args .entry)) master .answer)) (masterDone operation (now (args .entry)) master .master) ⌝ }
+    ensures { λ _. ⌜ now (out .exit) ≡ outWithMaster (copied (now (out .entry)) 0 (masterDone operation (now (args .entry)) master .answer)) (masterDone operation (now (args .entry)) master .master) ⌝ }
 {
     let first = byte(args, 0);
     let second = byte(args, 1);

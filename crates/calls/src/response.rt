@@ -16,7 +16,7 @@ ghost use lib.ListN.{length, replicate};
 ghost use Rattle.copying.specs.Copy.{copied};
 ghost use Rattle.format.specs.Refusals as refusals;
 ghost use Rattle.stream.specs.Answers as answers;
-ghost use Rattle.calls.specs.Responses.{number2Bytes, number4Bytes, number8Bytes, answerBytes, outcomeBytes, replyBytes, withSlots};
+ghost use Rattle.calls.specs.Responses.{number2Bytes, number4Bytes, number8Bytes, answerBytes, outcomeBytes, replyBytes, outWithSlots};
 ghost use Rattle.calls.specs.Responses as responses;
 
 // The size of an answer.
@@ -28,7 +28,7 @@ pub const WITH_SLOTS: usize = 164;
 // Each byte is a step more than the one before it, modulo 256.
 pub fn fill(bytes: &mut [u8], first: u8, step: u8)
     ensures { λ _. ⌜ (step ≡ 0 → now (bytes .exit) ≡ replicate (length (now (bytes .entry))) first) ⌝ }
-    ensures { λ _. ⌜ now (bytes .exit) ≡ responses.stepped (length (now (bytes .entry))) first step ⌝ }
+    ensures { λ _. ⌜ now (bytes .exit) ≡ responses.filledBytes (length (now (bytes .entry))) first step ⌝ }
 {
     let mut next = first;
     let mut i = 0;
@@ -42,7 +42,7 @@ pub fn fill(bytes: &mut [u8], first: u8, step: u8)
 // A number that has no room in two bytes, which no call gives, is shown as the largest that has.
 fn shown(n: usize) -> usize
     ensures { λ r. ⌜ r < 65536 ⌝ }
-    ensures { λ r. ⌜ r ≡ responses.shown n ⌝ }
+    ensures { λ r. ⌜ r ≡ responses.capped n ⌝ }
 {
     if n > 65535 {
         return 65535;
@@ -228,7 +228,7 @@ fn put_slot(out: &mut [u8], at: usize, slot: Slot)
 
 // The sixteen slots, after the answer.
 pub fn put_slots(out: &mut [u8], station: Station)
-    ensures { λ _. ⌜ now (out .exit) ≡ withSlots (now (out .entry)) 4 (station .slots) ⌝ }
+    ensures { λ _. ⌜ now (out .exit) ≡ outWithSlots (now (out .entry)) 4 (station .slots) ⌝ }
 {
     let slots = station.slots;
     let mut i = 0;

@@ -44,7 +44,7 @@ ghost use Rattle.station.specs.Receive as receiving;
 ghost use Rattle.calls.specs.Desks.{asDone, lentSize, storeOf, slotSet, keepingDone, stationDone};
 ghost use Rattle.calls.specs.Desks as desks;
 ghost use Rattle.calls.specs.Requests.{byteAt, keyAt, slotNamed, bytesFrom};
-ghost use Rattle.calls.specs.Responses.{answerBytes, stepped, withSlots};
+ghost use Rattle.calls.specs.Responses.{answerBytes, filledBytes, outWithSlots};
 ghost use lib.ListN.{length, set};
 
 // The station; how much of the bytes is lent to its calls as their store; the front that receives: 0
@@ -89,7 +89,7 @@ pub fn kept(desk: Desk, size: usize) -> Done
 // slots.
 fn changed(desk: Desk, station: Station, out: &mut [u8]) -> Done
     ensures { λ r. ⌜ r ≡ record { desk = record { station = station; lent = desk .lent; front = desk .front; count = desk .count }; size = 164 } ⌝ }
-    ensures { λ _. ⌜ now (out .exit) ≡ withSlots (now (out .entry)) 4 (station .slots) ⌝ }
+    ensures { λ _. ⌜ now (out .exit) ≡ outWithSlots (now (out .entry)) 4 (station .slots) ⌝ }
 {
     let mut next = desk;
     next.station = station;
@@ -108,7 +108,7 @@ fn put_changed(desk: Desk, made: Changed, out: &mut [u8]) -> Done
 }
 
 fn renew(desk: Desk, bytes: &mut [u8], args: &[u8], out: &mut [u8]) -> Done
-    ensures { λ r. ⌜ asDone r (now (bytes .exit)) (now (out .exit)) ≡ desks.renewed (now (args .entry)) desk (now (bytes .entry)) (now (out .entry)) ⌝ }
+    ensures { λ r. ⌜ asDone r (now (bytes .exit)) (now (out .exit)) ≡ desks.deskRenewed (now (args .entry)) desk (now (bytes .entry)) (now (out .entry)) ⌝ }
 {
     fill(bytes, 0, 0);
     put_value(out, 0);
@@ -262,7 +262,7 @@ fn stored(bytes: &[u8], args: &[u8], out: &mut [u8]) -> usize
 
 fn refill(bytes: &mut [u8], args: &[u8], out: &mut [u8]) -> usize
     ensures { λ r. ⌜ r ≡ 4 ⌝ }
-    ensures { λ _. ⌜ now (bytes .exit) ≡ stepped (length (now (bytes .entry))) (byteAt (now (args .entry)) 0) (byteAt (now (args .entry)) 1) ⌝ }
+    ensures { λ _. ⌜ now (bytes .exit) ≡ filledBytes (length (now (bytes .entry))) (byteAt (now (args .entry)) 0) (byteAt (now (args .entry)) 1) ⌝ }
     ensures { λ _. ⌜ now (out .exit) ≡ copied (now (out .entry)) 0 (answerBytes 5 0 0) ⌝ }
 {
     fill(bytes, byte(args, 0), byte(args, 1));

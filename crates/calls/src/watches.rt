@@ -11,7 +11,7 @@ ghost use mathlib.Core.Path.{_≡_};
 ghost use Rattle.copying.specs.Copy.{copied};
 ghost use Rattle.watch.specs.Watching.{newWatch, hearing, checking};
 ghost use Rattle.calls.specs.Requests.{byteAt, number4At};
-ghost use Rattle.calls.specs.Responses.{answerBytes, outcomeBytes, withWatch, resetsOf};
+ghost use Rattle.calls.specs.Responses.{answerBytes, outcomeBytes, outWithWatch, resetsOf};
 ghost use Rattle.calls.specs.Operations.{watchDone};
 
 // The size of an answer with the last times.
@@ -26,7 +26,7 @@ pub struct Done {
 // The response to a call: the answer, which is written already, and the last times.
 fn changed(watch: Watch, out: &mut [u8]) -> Done
     ensures { λ r. ⌜ r ≡ record { watch = watch; size = 12 } ⌝ }
-    ensures { λ _. ⌜ now (out .exit) ≡ withWatch (now (out .entry)) watch ⌝ }
+    ensures { λ _. ⌜ now (out .exit) ≡ outWithWatch (now (out .entry)) watch ⌝ }
 {
     put_word(out, 4, watch.a);
     put_word(out, 8, watch.b);
@@ -38,7 +38,7 @@ fn changed(watch: Watch, out: &mut [u8]) -> Done
 
 fn renew(args: &[u8], out: &mut [u8]) -> Done
     ensures { λ r. ⌜ r ≡ record { watch = newWatch (number4At (now (args .entry)) 0); size = 12 } ⌝ }
-    ensures { λ _. ⌜ now (out .exit) ≡ withWatch (copied (now (out .entry)) 0 (answerBytes 5 0 0)) (newWatch (number4At (now (args .entry)) 0)) ⌝ }
+    ensures { λ _. ⌜ now (out .exit) ≡ outWithWatch (copied (now (out .entry)) 0 (answerBytes 5 0 0)) (newWatch (number4At (now (args .entry)) 0)) ⌝ }
 {
     put_value(out, 0);
     changed(Watch::new(word(args, 0)), out)
@@ -46,7 +46,7 @@ fn renew(args: &[u8], out: &mut [u8]) -> Done
 
 fn hear(watch: Watch, args: &[u8], out: &mut [u8]) -> Done
     ensures { λ r. ⌜ r ≡ record { watch = hearing watch (byteAt (now (args .entry)) 0) (number4At (now (args .entry)) 1) .watch; size = 12 } ⌝ }
-    ensures { λ _. ⌜ now (out .exit) ≡ withWatch (copied (now (out .entry)) 0 (outcomeBytes (hearing watch (byteAt (now (args .entry)) 0) (number4At (now (args .entry)) 1) .answer))) (hearing watch (byteAt (now (args .entry)) 0) (number4At (now (args .entry)) 1) .watch) ⌝ }
+    ensures { λ _. ⌜ now (out .exit) ≡ outWithWatch (copied (now (out .entry)) 0 (outcomeBytes (hearing watch (byteAt (now (args .entry)) 0) (number4At (now (args .entry)) 1) .answer))) (hearing watch (byteAt (now (args .entry)) 0) (number4At (now (args .entry)) 1) .watch) ⌝ }
 {
     let r = watch.heard(byte(args, 0), word(args, 1));
     let answer = r.answer;
@@ -73,7 +73,7 @@ fn resets(a: bool, b: bool) -> usize
 
 fn check(watch: Watch, args: &[u8], out: &mut [u8]) -> Done
     ensures { λ r. ⌜ r ≡ record { watch = checking watch (number4At (now (args .entry)) 0) .watch; size = 12 } ⌝ }
-    ensures { λ _. ⌜ now (out .exit) ≡ withWatch (copied (now (out .entry)) 0 (answerBytes 5 (resetsOf (checking watch (number4At (now (args .entry)) 0) .a) (checking watch (number4At (now (args .entry)) 0) .b)) 0)) (checking watch (number4At (now (args .entry)) 0) .watch) ⌝ }
+    ensures { λ _. ⌜ now (out .exit) ≡ outWithWatch (copied (now (out .entry)) 0 (answerBytes 5 (resetsOf (checking watch (number4At (now (args .entry)) 0) .a) (checking watch (number4At (now (args .entry)) 0) .b)) 0)) (checking watch (number4At (now (args .entry)) 0) .watch) ⌝ }
 {
     let r = watch.check(word(args, 0));
     let next = r.watch;
@@ -84,7 +84,7 @@ fn check(watch: Watch, args: &[u8], out: &mut [u8]) -> Done
 // Does what a request on a watch asks for, and writes the response.
 pub fn respond(watch: Watch, operation: u8, args: &[u8], out: &mut [u8]) -> Done
     ensures { λ r. ⌜ r ≡ record { watch = watchDone operation (now (args .entry)) watch .watch; size = 12 } ⌝ }
-    ensures { λ _. ⌜ now (out .exit) ≡ withWatch (copied (now (out .entry)) 0 (watchDone operation (now (args .entry)) watch .answer)) (watchDone operation (now (args .entry)) watch .watch) ⌝ }
+    ensures { λ _. ⌜ now (out .exit) ≡ outWithWatch (copied (now (out .entry)) 0 (watchDone operation (now (args .entry)) watch .answer)) (watchDone operation (now (args .entry)) watch .watch) ⌝ }
 {
     match operation {
         WATCH => renew(args, out),

@@ -1,5 +1,5 @@
 -- `calls::masters::by_hand` meets its contract.
-use Rattle.calls.specs.Requests.{masterIn}
+use Rattle.calls.specs.Requests.{masterNamed}
 use borrow.Author.Needs.{needs}
 use Rattle.calls.proofs.masters.by_hand.Statement.{statement}
 use Rattle.calls.proofs.masters.by_hand.Tie as tie
@@ -29,7 +29,7 @@ activity-of-requires : tie.Need-activity-of-requires
 activity-of-requires c κs = search needs
 
 returns : tie.Need-returns
-unfolding masterIn
+unfolding masterNamed
 returns c = simp (c .before .before .before .before .before .byte .ensures, c .before .before .before .before .byte2 .ensures, c .before .before .before .byte3 .ensures, c .before .before .byte4 .ensures, c .before .byte5 .ensures, c .activity-of .ensures)
 
 pub by-hand-spec : {M : Type 1} → statement M

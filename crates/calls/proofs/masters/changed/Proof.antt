@@ -1,5 +1,5 @@
 -- `calls::masters::changed` meets its contract.
-use Rattle.calls.specs.Responses.{withMaster}
+use Rattle.calls.specs.Responses.{outWithMaster}
 use borrow.Author.Needs.{needs}
 use Rattle.calls.proofs.masters.changed.Statement.{statement}
 use Rattle.calls.proofs.masters.changed.Tie as tie
@@ -17,7 +17,7 @@ same-length : tie.Need-same-length
 same-length c = search needs
 
 returns : tie.Need-returns
-unfolding withMaster
+unfolding outWithMaster
 returns c = (search needs, simp (c .before .before .before .before .before .before .before .put-activity .ensures, c .before .before .copy-in .ensures .1))
 
 pub changed-spec : {M : Type 1} → statement M

@@ -7,7 +7,7 @@ use native.Mathlib.Numerals.{add-one}
 use native.Mathlib.Omega.{arith}
 use lib.ListN.{length, take, set, replicate, length-set, replicate-append-replicate}
 use lib.Seq.{take-suc-set, take-all}
-use Rattle.calls.specs.Responses.{stepped}
+use Rattle.calls.specs.Responses.{filledBytes}
 use Rattle.calls.proofs.Steps.{byte-more, all-bytes}
 use Rattle.calls.proofs.response.fill.Statement.{statement}
 use Rattle.calls.proofs.response.fill.Tie as tie
@@ -25,7 +25,7 @@ one-more bytes i b x h ex e =
 abbrev Inv-loop : tie.InvT-loop
 Inv-loop bytes₀ first step next₀ i₀ bytes next i =
     (i ≤ length bytes₀) × (length bytes ≡ length bytes₀) × (step ≡ 0 → (next ≡ next₀) × (take i bytes ≡ replicate i next₀))
-    × (take i bytes ++ stepped (length bytes₀ - i) next step ≡ stepped (length bytes₀) first step)
+    × (take i bytes ++ filledBytes (length bytes₀ - i) next step ≡ filledBytes (length bytes₀) first step)
 
 abbrev μ-loop : tie.MeasureT-loop
 μ-loop bytes₀ first step next₀ i₀ bytes next i = length bytes₀ - i
@@ -33,7 +33,7 @@ abbrev μ-loop : tie.MeasureT-loop
 loop-holds : tie.Need-loop-holds Inv-loop μ-loop
 loop-holds c =
     let a = c .before .args in
-    (search needs, refl, λ e. (refl, refl), ap (λ (k : ℕ). stepped k (a .first) (a .step)) (omega arith))
+    (search needs, refl, λ e. (refl, refl), ap (λ (k : ℕ). filledBytes k (a .first) (a .step)) (omega arith))
 
 slice-write-bytes : tie.Need-slice-write-bytes Inv-loop μ-loop
 slice-write-bytes c = search needs
@@ -48,7 +48,7 @@ loop-less : tie.Need-loop-less Inv-loop μ-loop
 loop-less c = search needs
 
 loop-again : tie.Need-loop-again Inv-loop μ-loop
-unfolding stepped
+unfolding filledBytes
 loop-again c =
     let l = c .before .before .loop in
     let n = length (c .before .before .before .before .args .bytes .now) in
@@ -63,7 +63,7 @@ same-length : tie.Need-same-length Inv-loop μ-loop
 same-length c = search needs
 
 returns : tie.Need-returns Inv-loop μ-loop
-unfolding stepped
+unfolding filledBytes
 returns c =
     let l = c .before .loop in
     let n = length (c .before .before .before .args .bytes .now) in

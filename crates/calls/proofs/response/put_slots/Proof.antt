@@ -10,25 +10,25 @@ use lib.Seq.{drop-cons, drop-length}
 use Rattle.copying.specs.Copy.{copied}
 use Rattle.slot.specs.declared.Slot.{Slot}
 use Rattle.slot.specs.Slots.{closedSlot}
-use Rattle.calls.specs.Responses.{occupancyBytes, withSlots}
+use Rattle.calls.specs.Responses.{occupancyBytes, outWithSlots}
 use Rattle.calls.proofs.response.put_slots.Statement.{statement}
 use Rattle.calls.proofs.response.put_slots.Tie as tie
 
 one-more : (out : List ℕ) (slots : List Slot) (i : ℕ) → i < length slots
-    → withSlots (copied out (4 + 10 * i) (occupancyBytes (getD slots i closedSlot .occupancy))) (4 + 10 * (i + 1)) (drop (i + 1) slots)
-    ≡ withSlots out (4 + 10 * i) (drop i slots)
-unfolding withSlots
+    → outWithSlots (copied out (4 + 10 * i) (occupancyBytes (getD slots i closedSlot .occupancy))) (4 + 10 * (i + 1)) (drop (i + 1) slots)
+    ≡ outWithSlots out (4 + 10 * i) (drop i slots)
+unfolding outWithSlots
 one-more out slots i h =
     let e : 4 + 10 * (i + 1) ≡ 4 + 10 * i + 10 = omega arith in
     rw (e, add-one, drop-cons slots i closedSlot)
 
-none-left : (out : List ℕ) (slots : List Slot) (i : ℕ) → i ≡ length slots → withSlots out (4 + 10 * i) (drop i slots) ≡ out
-unfolding withSlots
+none-left : (out : List ℕ) (slots : List Slot) (i : ℕ) → i ≡ length slots → outWithSlots out (4 + 10 * i) (drop i slots) ≡ out
+unfolding outWithSlots
 none-left out slots i e = rw (e, drop-length)
 
 abbrev Inv-loop : tie.InvT-loop
 Inv-loop out₀ slots i₀ out i =
-    (i ≤ 16) × (length out ≡ length out₀) × (withSlots out (4 + 10 * i) (drop i slots) ≡ withSlots out₀ 4 slots)
+    (i ≤ 16) × (length out ≡ length out₀) × (outWithSlots out (4 + 10 * i) (drop i slots) ≡ outWithSlots out₀ 4 slots)
 
 abbrev μ-loop : tie.MeasureT-loop
 μ-loop out₀ slots i₀ out i = 16 - i

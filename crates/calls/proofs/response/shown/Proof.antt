@@ -1,16 +1,16 @@
 -- `calls::response::shown` meets its contract.
 use borrow.Author.Tests.{le-leb, le-ltb, lt-leb, lt-ltb}
-use Rattle.calls.specs.Responses.{shown}
+use Rattle.calls.specs.Responses.{capped}
 use borrow.Author.Needs.{needs}
 use Rattle.calls.proofs.response.shown.Statement.{statement}
 use Rattle.calls.proofs.response.shown.Tie as tie
 
 returns : tie.Need-returns
-unfolding shown
+unfolding capped
 returns c = (search needs, simp (lt-leb _ _ (c .if1 .taken), lt-ltb _ _ (c .if1 .taken)))
 
 returns-2 : tie.Need-returns-2
-unfolding shown
+unfolding capped
 returns-2 c = (search needs, simp (le-ltb _ _ (c .if1 .left), le-leb _ _ (c .if1 .left)))
 
 pub shown-spec : {M : Type 1} → statement M

@@ -1,5 +1,5 @@
 -- `calls::watches::changed` meets its contract.
-use Rattle.calls.specs.Responses.{withWatch}
+use Rattle.calls.specs.Responses.{outWithWatch}
 use borrow.Author.Needs.{needs}
 use Rattle.calls.proofs.watches.changed.Statement.{statement}
 use Rattle.calls.proofs.watches.changed.Tie as tie
@@ -14,7 +14,7 @@ same-length : tie.Need-same-length
 same-length c = search needs
 
 returns : tie.Need-returns
-unfolding withWatch
+unfolding outWithWatch
 returns c = (search needs, simp (c .before .before .before .before .before .before .put-word .ensures, c .before .before .put-word2 .ensures))
 
 pub changed-spec : {M : Type 1} → statement M
