@@ -1,5 +1,5 @@
--- compare/PROTOCOL.md: what the program holds between requests, and what a request does to it. "A request is [..] an operation byte, and its
--- arguments"; one that is none "has an empty response, of length 0, and changes nothing".
+-- compare/PROTOCOL.md: what the program holds between requests, and what a request does to it. "A request is [..] an operation byte, and
+-- its arguments"; one that is none "has an empty response, of length 0, and changes nothing".
 use Prim.Native.Nat.{ℕ}
 use mathlib.Core.Bool.{Bool, true, cond}
 use mathlib.Core.List.{List, [], _∷_}

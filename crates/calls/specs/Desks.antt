@@ -16,7 +16,8 @@ use Rattle.calls.specs.declared.stations.Done.{Done}
 use Rattle.lister.specs.declared.Listing.{Listing}
 use Rattle.lister.specs.Listing.{AfterListing, newListing, listing, ending}
 use Rattle.calls.specs.Requests.{byteAt, number2At, number8At, bytesBetween, bytesFrom, formatNamed, keyAt, slotNamed}
-use Rattle.calls.specs.Responses.{answerBytes, outcomeBytes, replyBytes, reasonBytes, number2Bytes, number8Bytes, outWithSlots, filledBytes}
+use Rattle.calls.specs.Responses.{answerBytes, outcomeBytes, replyBytes, reasonBytes, outWithSlots}
+use Rattle.calls.specs.Responses.{number2Bytes, number8Bytes, filledBytes}
 use Rattle.calls.specs.Responses.{Responded, roomFor, answerAlone, lentIn}
 
 -- the desk after a request, the bytes, and the response
@@ -42,13 +43,13 @@ withStore desk bytes store = store ++ drop (lentSize desk bytes) bytes
 abbrev pub withStation : Desk → Station → Desk
 withStation desk station = record { station = station; lent = desk .lent; front = desk .front; count = desk .count }
 
+abbrev pub withResponse : Desk → (bytes : List ℕ) → Responded → DeskDone
+withResponse desk bytes response = record { desk = desk; bytes = bytes; response = response }
+
 -- "answer, slots"
 abbrev pub withAnswer : Desk → (bytes answer out : List ℕ) → DeskDone
 withAnswer desk bytes answer out =
-    record { desk = desk; bytes = bytes; response = record { size = 164; output = outWithSlots (copied out 0 answer) 4 (desk .station .slots) } }
-
-abbrev pub withResponse : Desk → (bytes : List ℕ) → Responded → DeskDone
-withResponse desk bytes response = record { desk = desk; bytes = bytes; response = response }
+    withResponse desk bytes (record { size = 164; output = outWithSlots (copied out 0 answer) 4 (desk .station .slots) })
 
 -- an empty response, and nothing changed
 abbrev pub unanswered : Desk → (bytes out : List ℕ) → DeskDone
@@ -92,12 +93,13 @@ slotSet args desk bytes out =
 abbrev pub lending : List ℕ → Desk → (bytes out : List ℕ) → DeskDone
 lending args desk bytes out =
     let n = number2At args 0 in
-    withResponse (record { station = desk .station; lent = n; front = desk .front; count = desk .count }) bytes (answerAlone (answerBytes 5 n 0) out)
+    let next : Desk = record { station = desk .station; lent = n; front = desk .front; count = desk .count } in
+    withResponse next bytes (answerAlone (answerBytes 5 n 0) out)
 
 abbrev pub frontSet : List ℕ → Desk → (bytes out : List ℕ) → DeskDone
 frontSet args desk bytes out =
-    let front = byteAt args 0 in
-    withResponse (record { station = desk .station; lent = desk .lent; front = front; count = desk .count }) bytes (answerAlone (answerBytes 5 0 0) out)
+    let next : Desk = record { station = desk .station; lent = desk .lent; front = byteAt args 0; count = desk .count } in
+    withResponse next bytes (answerAlone (answerBytes 5 0 0) out)
 
 -- 10 STORE: "those of the 40,000 bytes"
 abbrev pub bytesShown : List ℕ → (bytes out : List ℕ) → Responded

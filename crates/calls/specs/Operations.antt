@@ -1,5 +1,5 @@
--- compare/PROTOCOL.md: which requests are requests. "A request that is none of those below (an unknown operation, another number of argument
--- bytes than stated, a format over 1, or whatever else the table rules out) has an empty response".
+-- compare/PROTOCOL.md: which requests are requests. "A request that is none of those below (an unknown operation, another number of
+-- argument bytes than stated, a format over 1, or whatever else the table rules out) has an empty response".
 use Prim.Native.Nat.{ℕ, _+_}
 use mathlib.Core.Bool.{Bool, true, false, cond}
 use mathlib.Core.List.{List, [], _∷_}
@@ -64,8 +64,8 @@ stationArgs operation args others =
     ∷ [])
     others
 
--- a refusal that is none of 1 to 21; more identifiers than 32,768; a line's kind over 4, its format over 1; a longer room than 4,096; a node
--- over 63, a kind of exchange over 3, or one that is none of 1 to 3
+-- a refusal that is none of 1 to 21; more identifiers than 32,768; a line's kind over 4, its format over 1; a longer room than 4,096; a
+-- node over 63, a kind of exchange over 3, or one that is none of 1 to 3
 unfoldable pub otherArgs : ℕ → List ℕ → Bool
 otherArgs operation args =
     ruled operation

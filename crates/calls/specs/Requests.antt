@@ -79,18 +79,23 @@ masterNamed args =
 -- SLOT: "slot number 0 to 15, kind 0 to 3, h (2 bytes), bus, format, 5 fields"
 unfoldable pub slotNamed : (kind h : ℕ) → Key → Slot
 slotNamed kind h key =
-    cond (eqb kind 0) closedSlot (openSlot key (cond (eqb kind 1) progress.Idle (cond (eqb kind 2) (progress.Collecting h) (progress.Done h))))
+    cond (eqb kind 0) closedSlot
+    (openSlot key (cond (eqb kind 1) progress.Idle (cond (eqb kind 2) (progress.Collecting h) (progress.Done h))))
 
 -- "a refusal's place in document 01's table, 1 to 21"; of a line "one that is not 1 to 20 is read as 21", and so is 0
 abbrev pub refusalTable : List Refusal
-refusalTable = refusal.State ∷ refusal.Length ∷ refusal.Form ∷ refusal.Remote ∷ refusal.Count ∷ refusal.Piece ∷ refusal.Orphan ∷ refusal.Step ∷ refusal.Long ∷ refusal.Field ∷ refusal.Size ∷ refusal.Index ∷ refusal.Room ∷ refusal.Store ∷ refusal.Taken ∷ refusal.Full ∷ refusal.Closed ∷ refusal.NoPacket ∷ refusal.Busy ∷ refusal.Idle ∷ refusal.NotAwaited ∷ []
+refusalTable =
+    refusal.State ∷ refusal.Length ∷ refusal.Form ∷ refusal.Remote ∷ refusal.Count ∷ refusal.Piece
+    ∷ refusal.Orphan ∷ refusal.Step ∷ refusal.Long ∷ refusal.Field ∷ refusal.Size ∷ refusal.Index
+    ∷ refusal.Room ∷ refusal.Store ∷ refusal.Taken ∷ refusal.Full ∷ refusal.Closed ∷ refusal.NoPacket
+    ∷ refusal.Busy ∷ refusal.Idle ∷ refusal.NotAwaited ∷ []
 
 unfoldable pub refusalNamed : ℕ → Refusal
 refusalNamed place = getD refusalTable place refusal.State
 
--- A line "is 29 bytes, of which each kind looks at its own: kind (0 header, 1 frame, 2 refused image, 3 stopped, 4 records), ordinal or count
--- (8 bytes), bus, format, 5 fields, flag, number, count, and an answer in 10 bytes: its kind (1 to 4 as below), its number (8 bytes; of a
--- refusal its place in the table, as of NUMBER), and 1 if it is "broke", else 0. [..] another kind of answer as 4 [..] of a refusal's
+-- A line "is 29 bytes, of which each kind looks at its own: kind (0 header, 1 frame, 2 refused image, 3 stopped, 4 records), ordinal or
+-- count (8 bytes), bus, format, 5 fields, flag, number, count, and an answer in 10 bytes: its kind (1 to 4 as below), its number (8 bytes;
+-- of a refusal its place in the table, as of NUMBER), and 1 if it is "broke", else 0. [..] another kind of answer as 4 [..] of a refusal's
 -- place the lowest byte counts". It comes after the room, at place 1.
 unfoldable pub answerOfLine : List ℕ → Answer
 answerOfLine args =

@@ -140,6 +140,7 @@ roomFor size out with =
 abbrev pub answerAlone : (answer out : List ℕ) → Responded
 answerAlone answer out = record { size = 4; output = copied out 0 answer }
 
--- the answer of a call that writes a text "to an output of `room` bytes, which before the call are all" alike, and that output from a place on
+-- the answer of a call that writes a text "to an output of `room` bytes, which before the call are all" alike, and that output from a place
+-- on
 unfoldable pub lentIn : (at : ℕ) → Result (List ℕ) → (n byte : ℕ) → (out : List ℕ) → List ℕ
 lentIn at text n byte out = copied (written out at (outputAfter text (replicate n byte))) 0 (outcomeBytes (answer text))

@@ -1,6 +1,6 @@
--- compare/PROTOCOL.md: "Both read requests from standard input until it ends and write a response for each to standard output, in order". "A
--- request is a two-byte length of what follows, an operation byte, and its arguments. A response is a two-byte length of what follows, and that
--- many bytes." What is done with the requests that an input holds.
+-- compare/PROTOCOL.md: "Both read requests from standard input until it ends and write a response for each to standard output, in order".
+-- "A request is a two-byte length of what follows, an operation byte, and its arguments. A response is a two-byte length of what follows,
+-- and that many bytes." What is done with the requests that an input holds.
 use Prim.Native.Nat.{ℕ, zero, suc, _+_}
 use mathlib.Core.Bool.{true, false, cond}
 use mathlib.Core.List.{List}

@@ -100,7 +100,8 @@ atBounds =
     ∷ "18 A 0 0 0 0 3 0 2 0 packet 0"
     ∷ "records 18"
     ∷ []))
-    -- a key is seen first in an end, or in a middle, too: it is ORPHAN, not "filtered", and its key is open, so that a start of its own is "kept"
+    -- a key is seen first in an end, or in a middle, too: it is ORPHAN, not "filtered", and its key is open, so that a start of its own is
+    -- "kept"
     ∷ row (anEnd ++ (aMiddle ++ (aStart ++ anEnd)))
     (headed
     ("1 A 1 5 0 0 2 1 2 1 refused 6"

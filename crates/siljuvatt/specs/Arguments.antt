@@ -1,5 +1,5 @@
--- Document 01, "Splitting": "Fields: priority 0 to 3, source, destination and address 0 to 63, group 0 to 3, function 0 to 31, side 0 to 1." A
--- format is handed in as a number, fields as bytes in the order of the image's layout.
+-- Document 01, "Splitting": "Fields: priority 0 to 3, source, destination and address 0 to 63, group 0 to 3, function 0 to 31, side 0 to
+-- 1." A format is handed in as a number, fields as bytes in the order of the image's layout.
 use Prim.Native.Nat.{ℕ}
 use mathlib.Core.Bool.{cond}
 use mathlib.Core.List.{List}

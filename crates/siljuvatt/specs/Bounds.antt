@@ -1,5 +1,6 @@
--- The numbers of 32 bits that the library answers, what it reads as fields, and what it adds to the calls below it, once more as literals: what
--- the header says, so that a figure or an order changed alike in a definition and in the code breaks the claim. proofs/Bounds.antt proves it.
+-- The numbers of 32 bits that the library answers, what it reads as fields, and what it adds to the calls below it, once more as literals:
+-- what the header says, so that a figure or an order changed alike in a definition and in the code breaks the claim. proofs/Bounds.antt
+-- proves it.
 use Prim.Native.Nat.{ℕ}
 use mathlib.Core.Path.{_≡_}
 use mathlib.Core.Bool.{Bool, true, false}

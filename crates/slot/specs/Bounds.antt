@@ -100,7 +100,8 @@ table =
     ∷ sounds Extended (replicate 15 closedSlot ++ (opened 2 node ∷ [])) false
     ∷ sounds Extended (replicate 15 closedSlot ++ (openSlot (keyWith 0 node) (Done 2049) ∷ [])) false
     ∷ sounds Standard (replicate 15 closedSlot ++ (opened 0 node ∷ [])) false
-    -- from the lowest bit: priority 2, function 5, bus 1; then source, group and destination, a byte each. Standard: address, 01 above it; side
+    -- from the lowest bit: priority 2, function 5, bus 1; then source, group and destination, a byte each. Standard: address, 01 above it;
+    -- side
     ∷ codes 0 (fields.Extended 3 0 0 0 0) 3
     ∷ codes 1 node 0x0602058D
     ∷ codes 1 (fields.Extended 3 63 3 63 31) 0x3F033FFF

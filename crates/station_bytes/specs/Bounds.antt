@@ -1,5 +1,5 @@
--- The 129 bytes of a station, once more as literals: what a state that was written yesterday is read by tomorrow, so that a layout changed alike
--- in the definitions and in the code breaks the claim; and which bytes are no state. proofs/Bounds.antt proves it.
+-- The 129 bytes of a station, once more as literals: what a state that was written yesterday is read by tomorrow, so that a layout changed
+-- alike in the definitions and in the code breaks the claim; and which bytes are no state. proofs/Bounds.antt proves it.
 use Prim.Native.Nat.{ℕ, _*_}
 use mathlib.Core.Path.{_≡_}
 use mathlib.Core.Bool.{Bool, true, false}

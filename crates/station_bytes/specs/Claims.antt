@@ -72,8 +72,8 @@ pub record StaySound : Type 0 where
   pub closes : (station : Station) → soundStation station ≡ true → (i : ℕ) → AreSound (closeIn (stateBytes station) i .state)
   pub new : (state : List ℕ) → length state ≡ 129 → (format : Format) → AreSound (renewed state format .state)
 
--- "Nothing is written and the state handed back is the one handed in, except the idle slot after 7 and 8": the bytes that a call refused by n
--- leaves, where it concerned slot i
+-- "Nothing is written and the state handed back is the one handed in, except the idle slot after 7 and 8": the bytes that a call refused by
+-- n leaves, where it concerned slot i
 unfoldable pub leftIn : (n : ℕ) → List ℕ → (i : ℕ) → List ℕ
 leftIn n state i = cond (eqb n (number Step) || eqb n (number Long)) (stateBytes (leftBy n (stationIn state) i)) state
 

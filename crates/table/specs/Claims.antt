@@ -1,6 +1,6 @@
 -- What is promised of the second front. Each claim is about whatever meets the contract of `table::receive`. `AsFirst`, `OneGiven`,
--- `OneRecord`, `NotSound`, `OtherLength` and `RefusedKeeps` are of one call, `OnTable`, `AsRun`, `Demand3OnCalls` and `RoundTripOnCalls` of runs.
--- Proofs: proofs/Fronts.antt.
+-- `OneRecord`, `NotSound`, `OtherLength` and `RefusedKeeps` are of one call, `OnTable`, `AsRun`, `Demand3OnCalls` and `RoundTripOnCalls` of
+-- runs. Proofs: proofs/Fronts.antt.
 use Prim.Native.Nat.{ℕ}
 use mathlib.Core.Path.{_≡_}
 use mathlib.Core.Logic.{_≢_}
