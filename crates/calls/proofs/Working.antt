@@ -1,21 +1,22 @@
 -- Places in the input and the output, one request, and one after the other.
 use Prim.Native.Nat.{ℕ, zero, suc, _+_, _-_, _≤_, _<_}
 use mathlib.Core.Path.{_≡_, refl, sym, ap, _∙_}
-use mathlib.Core.Bool.{true, false}
+use mathlib.Core.Bool.{Bool, true, false}
 use mathlib.Core.List.{List}
 use native.Mathlib.Omega.{arith}
-use lib.ListN.{length, take, drop, length-drop}
-use lib.Seq.{take-all}
+use lib.ListN.{length, take, drop, length-take, length-drop}
+use lib.Seq.{take-all, take-append-seam}
 use borrow.Author.Tests.{le-leb, lt-leb, ne-eqb}
 use borrow.Rule.Slice.PartMut.{midOf, putMid}
 use Rattle.copying.specs.Copy.{copied}
+use Rattle.pipes.specs.Holding.{ReadOn, left, moved}
 use Rattle.calls.specs.declared.bench.Done.{Done}
 use Rattle.calls.specs.declared.Span.{Span}
 use Rattle.calls.specs.declared.Work.{Work}
 use Rattle.calls.specs.Requests.{number2At, bytesBetween}
 use Rattle.calls.specs.Responses.{number2Bytes}
 use Rattle.calls.specs.Benches.{asBench, responding}
-use Rattle.calls.specs.Working.{requestEnd, spanAt, startAt, responseEnd, WorkDone, asWork, workedOne, worked}
+use Rattle.calls.specs.Working.{requestEnd, spanAt, startAt, responseEnd, WorkDone, asWork, workedOne, worked, restOf, GoesOn}
 use Rattle.calls.proofs.Parts.{part-back}
 
 module _ (input : List ℕ) (at : ℕ) where
@@ -86,3 +87,51 @@ module _ (done : WorkDone) (input : List ℕ) where
   unfolding worked
   worked-out zero h = refl
   worked-out (suc turns) h = absurd (omega arith)
+
+-- ---- going on
+
+module _ (input : List ℕ) (at held : ℕ) (h : held ≤ length input) where
+  abbrev rest : List ℕ
+  rest = restOf input at held
+
+  rest-size : length rest ≡ left input at held
+  rest-size = rw (le-leb _ _ h) (simp (length-take, length-drop) (omega arith))
+
+  rest-moved : take (length rest) (moved input at held) ≡ rest
+  rest-moved = rw (le-leb _ _ h) (take-append-seam rest (drop (held - at) input))
+
+  pub gone-ended : (last : List ℕ) → GoesOn input at held (record { held = 0; going = false }) last
+  gone-ended last =
+      record {
+        within = omega arith;
+        kept = λ g. let z : _≡_ {A = ℕ} 0 1 = cc in absurd (omega arith);
+        more = λ g. let z : _≡_ {A = ℕ} 0 1 = cc in absurd (omega arith);
+        whole = λ g w. let z : _≡_ {A = ℕ} 0 1 = cc in absurd (omega arith);
+      }
+
+  pub gone-whole : (n : ℕ) (last : List ℕ) → n ≤ length input → n ≡ left input at held → last ≡ moved input at held
+      → GoesOn input at held (record { held = n; going = true }) last
+  gone-whole n last in-input n-is last-is =
+      record {
+        within = in-input;
+        kept = λ g. rw last-is rest-moved;
+        more = λ g. omega (arith, rest-size);
+        whole = λ g w. n-is ∙ sym rest-size;
+      }
+
+  no-whole : (part : List ℕ) → spanAt part 0 .to ≤ 0 → requestEnd part 0 ≤ length part → ⊥
+  unfolding spanAt requestEnd
+  no-whole part s w = let t = rw (le-leb _ _ w) at s in omega arith
+
+  pub gone-more : (n more : ℕ) (going : Bool) (input′ last : List ℕ) (span : Span) → n ≡ left input at held → input′ ≡ moved input at held
+      → length input′ ≡ length input → n ≤ length input → span ≡ spanAt (take n input′) 0 → span .to ≤ 0 → ReadOn input′ n more last
+      → GoesOn input at held (record { held = more; going = going }) last
+  gone-more n more going input′ last span n-is input-is size-is in-input span-is none read =
+      let size : n ≡ length rest = n-is ∙ sym rest-size in
+      let head : take n input′ ≡ rest = rw (input-is, size) rest-moved in
+      record {
+        within = rw size-is at (read .more (omega arith) .1);
+        kept = λ g. rw (← size) (read .kept ∙ head);
+        more = λ g. omega (arith, read .more (omega arith) .0);
+        whole = λ g w. absurd (no-whole rest (rw (span-is, head) at none) w);
+      }

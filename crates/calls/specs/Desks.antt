@@ -68,7 +68,7 @@ deskRenewed args desk bytes out =
 abbrev pub changed : StationAfter → Desk → (bytes out : List ℕ) → DeskDone
 changed after desk bytes out = withAnswer (withStation desk (after .station)) bytes (outcomeBytes (after .answer)) out
 
--- 4 RECEIVE: "receives the image at the front that is set". Either front does the same
+-- 4 RECEIVE: "receives the image at the front that is set". Either front does the same, so that no response shows which is set
 abbrev pub received : After → Desk → (bytes out : List ℕ) → DeskDone
 received after desk bytes out =
     withAnswer (withStation desk (after .station)) (withStore desk bytes (after .store)) (replyBytes (after .answer)) out

@@ -1,13 +1,20 @@
 -- compare/PROTOCOL.md: "Both read requests from standard input until it ends and write a response for each to standard output, in order".
 -- "A request is a two-byte length of what follows, an operation byte, and its arguments. A response is a two-byte length of what follows,
 -- and that many bytes." What is done with the requests that an input holds.
-use Prim.Native.Nat.{ℕ, zero, suc, _+_}
+use Prim.Native.Nat.{ℕ, zero, suc, _+_, _-_, _≤_}
+use mathlib.Core.Path.{_≡_}
 use mathlib.Core.Bool.{true, false, cond}
 use mathlib.Core.List.{List}
 use lib.Dec.{eqb, leb}
-use lib.ListN.{length, take, drop}
+use lib.ListN.{length, take, drop, replicate}
 use Rattle.copying.specs.Copy.{written, copied}
+use Rattle.format.specs.declared.Format.the-variants.{Extended}
+use Rattle.station.specs.Stations.{newStation}
+use Rattle.master.specs.Masters.{newMaster}
+use Rattle.watch.specs.Watching.{newWatch}
 use Rattle.calls.specs.declared.bench.Bench.{Bench}
+use Rattle.calls.specs.declared.Held.{Held}
+use Rattle.calls.specs.declared.Session.{Session}
 use Rattle.calls.specs.declared.Span.{Span}
 use Rattle.calls.specs.declared.Work.{Work}
 use Rattle.calls.specs.Requests.{number2At, bytesBetween}
@@ -73,9 +80,38 @@ abbrev pub workedOff : Bench → (bytes input output : List ℕ) → WorkDone
 workedOff bench bytes input output =
     worked (length input) (asWork (record { bench = bench; at = 0; filled = 0; going = true }) bytes output) input
 
--- what is held of an input; nothing if that would be more than there is, which it never is
-unfoldable pub heldWithin : (held most : ℕ) → ℕ
-heldWithin held most = cond (leb held most) held 0
+-- what is left of the first `held` bytes of an input from a place on
+abbrev pub restOf : (input : List ℕ) (at held : ℕ) → List ℕ
+restOf input at held = take (held - at) (drop at input)
 
-abbrev pub heldOf : (held : ℕ) → List ℕ → List ℕ
-heldOf held input = take (heldWithin held (length input)) input
+-- going on: "as soon as no whole request is left, all responses so far are written". Whether they could be written, and what is read then, no
+-- contract can say. Where it goes on, what is left stands at the input's head; more is held only if no whole request is left
+pub record GoesOn (input : List ℕ) (at held : ℕ) (r : Held) (last : List ℕ) : Type 0 where
+  pub within : r .held ≤ length input
+  pub kept : r .going ≡ true → take (length (restOf input at held)) last ≡ restOf input at held
+  pub more : r .going ≡ true → length (restOf input at held) ≤ r .held
+  pub whole : r .going ≡ true → requestEnd (restOf input at held) 0 ≤ length (restOf input at held) → r .held ≡ length (restOf input at held)
+
+-- a turn: what is held is worked off, and it goes on
+abbrev pub workedIn : Session → (bytes input output : List ℕ) → WorkDone
+workedIn session bytes input output = workedOff (session .bench) bytes (take (session .held) input) output
+
+pub record Turned (session : Session) (bytes input output : List ℕ) (r : Session) (bytes′ input′ output′ : List ℕ) : Type 0 where
+  pub bench : r .bench ≡ workedIn session bytes input output .work .bench
+  pub bytes-are : bytes′ ≡ workedIn session bytes input output .bytes
+  pub output-is : output′ ≡ workedIn session bytes input output .output
+  pub on : GoesOn input (workedIn session bytes input output .work .at) (session .held) (record { held = r .held; going = r .going }) input′
+
+-- "The program holds a station, at first a new extended one; a front, at first 0; 40,000 bytes, at first all 0, of which the first `lent` are
+-- lent to the calls as their store, at first 32,768; a count of records listed, at first 0; a master, at first a new one; and a watch, at
+-- first one that is new at time 0."
+abbrev pub firstBench : Bench
+firstBench =
+    record {
+      desk = record { station = newStation Extended; lent = 32768; front = 0; count = 0 };
+      master = newMaster;
+      watch = newWatch 0;
+    }
+
+abbrev pub firstBytes : List ℕ
+firstBytes = replicate 40000 0

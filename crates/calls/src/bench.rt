@@ -17,11 +17,9 @@ use format::Format;
 use master::Master;
 use watch::Watch;
 ghost use mathlib.Core.Path.{_≡_};
-ghost use Rattle.master.specs.Masters.{newMaster};
-ghost use Rattle.station.specs.Stations.{newStation};
-ghost use Rattle.watch.specs.Watching.{newWatch};
 ghost use Prim.Native.Nat.{ℕ};
 ghost use mathlib.Core.List.{List};
+ghost use Rattle.calls.specs.Working.{firstBench};
 ghost use Rattle.calls.specs.Benches.{asBench, isImage, deskDone, otherDone, responding};
 
 pub struct Bench {
@@ -37,7 +35,7 @@ pub struct Done {
 }
 
 pub fn new() -> Bench
-    ensures { λ r. ⌜ r ≡ record { desk = record { station = newStation Format.Extended; lent = 32768; front = 0; count = 0 }; master = newMaster; watch = newWatch 0 } ⌝ }
+    ensures { λ r. ⌜ r ≡ firstBench ⌝ }
 {
     let desk = stations::new(Format::Extended, 0);
     let master = Master::new();

@@ -15,7 +15,8 @@ ghost use mathlib.Core.Path.{_≡_};
 ghost use Prim.Native.Nat.{_≤_};
 ghost use mathlib.Core.Bool.{false};
 ghost use lib.ListN.{length};
-ghost use Rattle.calls.specs.Working.{spanAt, startAt, responseEnd, stoppedWork, asWork, workedOne, workedOff, heldWithin, heldOf};
+ghost use Rattle.calls.specs.Working.{spanAt, startAt, responseEnd, stoppedWork, asWork, workedOne, workedOff};
+ghost use Rattle.calls.specs.Working.{GoesOn, Turned, firstBytes};
 
 // Where the work stands on a filled input: the place of the next request, and how much of the
 // output is filled.
@@ -101,17 +102,6 @@ fn end_of(room: usize, start: usize, size: usize) -> usize
     start + size
 }
 
-// At most that many.
-fn held_within(held: usize, most: usize) -> usize
-    ensures { λ r. ⌜ r ≤ most ⌝ }
-    ensures { λ r. ⌜ r ≡ heldWithin held most ⌝ }
-{
-    if held > most {
-        return 0;
-    }
-    held
-}
-
 fn stopped(work: Work) -> Work
     ensures { λ r. ⌜ r ≡ stoppedWork work ⌝ }
 {
@@ -181,12 +171,15 @@ fn ended() -> Held
 
 // Writes the responses, and reads on after what is left. Where a whole request is left, as the
 // output had no room, it does not read: its response must not wait for more input.
-fn go_on(input: &mut [u8], at: usize, held: usize, output: &[u8], filled: usize) -> Held {
+fn go_on(input: &mut [u8], at: usize, held: usize, output: &[u8], filled: usize) -> Held
+    requires { ⌜ held ≤ length (now input) ⌝ }
+    ensures { λ r. ⌜ GoesOn (now (input .entry)) at held r (now (input .exit)) ⌝ }
+{
     if !pipes::write_out(output, filled) {
         return ended();
     }
     let left = pipes::keep(input, at, held);
-    let span = request_at(&input[0..left], 0);
+    let span = request_at(&input[..left], 0);
     if span.to > 0 {
         return Held {
             held: left,
@@ -202,12 +195,11 @@ fn go_on(input: &mut [u8], at: usize, held: usize, output: &[u8], filled: usize)
 
 // Works off what is held of the input, writes the responses and reads on.
 fn turn(session: Session, bytes: &mut [u8], input: &mut [u8], output: &mut [u8]) -> Session
-    ensures { λ r. ⌜ r .bench ≡ workedOff (session .bench) (now (bytes .entry)) (heldOf (session .held) (now (input .entry))) (now (output .entry)) .work .bench ⌝ }
-    ensures { λ _. ⌜ now (bytes .exit) ≡ workedOff (session .bench) (now (bytes .entry)) (heldOf (session .held) (now (input .entry))) (now (output .entry)) .bytes ⌝ }
-    ensures { λ _. ⌜ now (output .exit) ≡ workedOff (session .bench) (now (bytes .entry)) (heldOf (session .held) (now (input .entry))) (now (output .entry)) .output ⌝ }
+    requires { ⌜ session .held ≤ length (now input) ⌝ }
+    ensures { λ r. ⌜ Turned session (now (bytes .entry)) (now (input .entry)) (now (output .entry)) r (now (bytes .exit)) (now (input .exit)) (now (output .exit)) ⌝ }
 {
     let bench = session.bench;
-    let held = held_within(session.held, input.len());
+    let held = session.held;
     let work = work_off(bench, bytes, &input[..held], output);
     let next = work.bench;
     let left = go_on(input, work.at, held, output, work.filled);
@@ -220,7 +212,9 @@ fn turn(session: Session, bytes: &mut [u8], input: &mut [u8], output: &mut [u8])
 
 // A proved loop has to end, and nothing says that the input does: the turns are counted down from
 // a number that no run uses up.
-fn serve(bytes: &mut [u8], input: &mut [u8], output: &mut [u8]) {
+fn serve(bytes: &mut [u8], input: &mut [u8], output: &mut [u8])
+    requires { ⌜ (now bytes ≡ firstBytes) × (65537 ≤ length (now input)) × (40002 ≤ length (now output)) ⌝ }
+{
     let bench = bench::new();
     let mut session = Session {
         bench: bench,

@@ -1,5 +1,5 @@
-// Writing responses: answers, slots and numbers. A byte past the output's end is left out, which
-// spares the proofs of all places; it never happens, as the output has room for the longest response.
+// Writing responses: answers, slots and numbers. Bytes that would end past the output's end are left
+// out, which spares the proofs of all places; it never happens, as there is room for the longest response.
 use copying::copy_in;
 use format::Fields;
 use format::Outcome;

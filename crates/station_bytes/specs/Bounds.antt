@@ -63,7 +63,7 @@ table =
     ∷ states (closed 16 ++ (0 ∷ 0 ∷ [])) false
     ∷ states (closed 16 ++ (1 ∷ [])) true
     ∷ states (closed 16 ++ (2 ∷ [])) false
-    -- a closed slot's record is all 0; an idle one holds nothing; the third byte is 1 to 3, the fourth 0
+    -- a closed slot's record is all 0; an idle one holds nothing; the record's seventh byte is 1 to 3, the eighth 0
     ∷ states (first (0x8D ∷ 5 ∷ 2 ∷ 6 ∷ 0 ∷ 0 ∷ 0 ∷ 0 ∷ []) 0) false
     ∷ states (first (0x8D ∷ 5 ∷ 2 ∷ 6 ∷ 1 ∷ 0 ∷ 1 ∷ 0 ∷ []) 0) false
     ∷ states (first (0x8D ∷ 5 ∷ 2 ∷ 6 ∷ 8 ∷ 0 ∷ 3 ∷ 0 ∷ []) 0) true

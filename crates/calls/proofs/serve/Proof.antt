@@ -1,12 +1,14 @@
--- `calls::serve` meets its contract: the turns run out, and the lengths stay.
+-- `calls::serve` meets its contract: the turns run out, the lengths stay, and what is held is within the input.
 use borrow.Author.Needs.{needs}
+use Prim.Native.Nat.{_≤_}
 use mathlib.Core.Path.{_≡_}
 use lib.ListN.{length}
 use Rattle.calls.proofs.serve.Statement.{statement}
 use Rattle.calls.proofs.serve.Tie as tie
 
 abbrev Inv-loop : tie.InvT-loop
-Inv-loop bytes₀ input₀ output₀ session₀ turns₀ bytes input output session turns = (length bytes ≡ length bytes₀) × (length input ≡ length input₀) × (length output ≡ length output₀)
+Inv-loop bytes₀ input₀ output₀ session₀ turns₀ bytes input output session turns =
+    (length bytes ≡ length bytes₀) × (length input ≡ length input₀) × (length output ≡ length output₀) × (session .held ≤ length input)
 
 abbrev μ-loop : tie.MeasureT-loop
 μ-loop bytes₀ input₀ output₀ session₀ turns₀ bytes input output session turns = turns
