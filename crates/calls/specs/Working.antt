@@ -84,13 +84,14 @@ workedOff bench bytes input output =
 abbrev pub restOf : (input : List ℕ) (at held : ℕ) → List ℕ
 restOf input at held = take (held - at) (drop at input)
 
--- going on: "as soon as no whole request is left, all responses so far are written". Whether they could be written, and what is read then, no
--- contract can say. Where it goes on, what is left stands at the input's head; more is held only if no whole request is left
+-- going on: "as soon as no whole request is left, all responses so far are written". Whether they could be written, and what is read then,
+-- no contract can say. Where it goes on, what is left stands at the input's head; more is held only if no whole request is left
 pub record GoesOn (input : List ℕ) (at held : ℕ) (r : Held) (last : List ℕ) : Type 0 where
   pub within : r .held ≤ length input
   pub kept : r .going ≡ true → take (length (restOf input at held)) last ≡ restOf input at held
   pub more : r .going ≡ true → length (restOf input at held) ≤ r .held
-  pub whole : r .going ≡ true → requestEnd (restOf input at held) 0 ≤ length (restOf input at held) → r .held ≡ length (restOf input at held)
+  pub whole : r .going ≡ true → requestEnd (restOf input at held) 0 ≤ length (restOf input at held)
+      → r .held ≡ length (restOf input at held)
 
 -- a turn: what is held is worked off, and it goes on
 abbrev pub workedIn : Session → (bytes input output : List ℕ) → WorkDone
@@ -102,9 +103,9 @@ pub record Turned (session : Session) (bytes input output : List ℕ) (r : Sessi
   pub output-is : output′ ≡ workedIn session bytes input output .output
   pub on : GoesOn input (workedIn session bytes input output .work .at) (session .held) (record { held = r .held; going = r .going }) input′
 
--- "The program holds a station, at first a new extended one; a front, at first 0; 40,000 bytes, at first all 0, of which the first `lent` are
--- lent to the calls as their store, at first 32,768; a count of records listed, at first 0; a master, at first a new one; and a watch, at
--- first one that is new at time 0."
+-- "The program holds a station, at first a new extended one; a front, at first 0; 40,000 bytes, at first all 0, of which the first `lent`
+-- are lent to the calls as their store, at first 32,768; a count of records listed, at first 0; a master, at first a new one; and a watch,
+-- at first one that is new at time 0."
 abbrev pub firstBench : Bench
 firstBench =
     record {
