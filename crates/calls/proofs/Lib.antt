@@ -4,3 +4,4 @@ mod Steps
 mod Desks
 mod Benches
 mod Working
+mod Sizes

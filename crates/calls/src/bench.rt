@@ -17,7 +17,7 @@ use format::Format;
 use master::Master;
 use watch::Watch;
 ghost use mathlib.Core.Path.{_≡_};
-ghost use Prim.Native.Nat.{ℕ};
+ghost use Prim.Native.Nat.{ℕ, _≤_};
 ghost use mathlib.Core.List.{List};
 ghost use Rattle.calls.specs.Working.{firstBench};
 ghost use Rattle.calls.specs.Benches.{asBench, isImage, deskDone, otherDone, responding};
@@ -123,6 +123,7 @@ fn change_other(bench: Bench, operation: u8, args: &[u8], out: &mut [u8]) -> Don
 // its response is empty.
 pub fn respond(bench: Bench, bytes: &mut [u8], request: &[u8], out: &mut [u8]) -> Done
     ensures { λ r. ⌜ asBench r (now (bytes .exit)) (now (out .exit)) ≡ responding bench (now (bytes .entry)) (now (request .entry)) (now (out .entry)) ⌝ }
+    ensures { λ r. ⌜ r .size ≤ 40000 ⌝ }
 {
     if request.len() < 1 {
         return kept(bench, 0);
