@@ -24,9 +24,11 @@ use Rattle.calls.specs.Images.{pieceDone, judgedDone, judgeDone, accepte
 use Rattle.calls.specs.Desks.{DeskDone, storeOf, keepingDone, stationDone, listingDone}
 use Rattle.calls.specs.Benches.{BenchDone, asBench, isImage, deskDone, otherDone, requestDone, responding}
 
+-- numbers below 256
 abbrev Bytes : List ℕ → Type 0
 Bytes l = (i : ℕ) → getD l i 0 < 256
 
+-- a response, alone and with what is kept, of at most 40,000 bytes
 abbrev Fits : Responded → Type 0
 Fits response = response .size ≤ 40000
 
@@ -36,17 +38,21 @@ DeskFits done = Fits (done .response)
 abbrev BenchFits : BenchDone → Type 0
 BenchFits done = Fits (done .response)
 
+-- either of two, of which the first may know why it is taken
 either : {A : Type 0} (P : A → Type 0) (b : Bool) (x y : A) → (b ≡ true → P x) → P y → P (cond b x y)
 either P true x y h k = h refl
 either P false x y h k = k
 
+-- a response for which the output may have no room
 with-room : (size : ℕ) (out with : List ℕ) → size ≤ 40000 → Fits (roomFor size out with)
 with-room size out with h = either Fits (ltb (length out) size) _ _ (λ _. omega arith) h
 
+-- JUDGE
 judged : (r : Result Judged) (out : List ℕ) → Fits (judgedDone r out)
 judged (value j) out = omega arith
 judged (refused n) out = omega arith
 
+-- READ: a packet
 packet-small : (station : Station) (store : List ℕ) (slot : ℕ) → length (partOf (reading station store slot)) ≤ 2048
 packet-small station store slot = go (reading station store slot) refl
   where
@@ -102,7 +108,8 @@ module _ (operation : ℕ) (args : List ℕ) (small : Bytes args) (request : isR
   listing-fits desk bytes out =
       when DeskFits 19 _ _ (λ _. omega arith)
       (when DeskFits 20 _ _ (λ _. omega arith)
-      (when DeskFits 21 _ _ (λ e. either DeskFits (ltb (length out) _) _ _ (λ _. omega arith) (omega (arith, limit 21 (number2At args 0) 4096 e refl)))
+      (when DeskFits 21 _ _
+      (λ e. either DeskFits (ltb (length out) _) _ _ (λ _. omega arith) (omega (arith, limit 21 (number2At args 0) 4096 e refl)))
       (when DeskFits 22 _ _ (λ e. with-room _ out _ (omega (arith, limit 22 (number2At args 0) 4096 e refl)))
       (omega arith))))
 
@@ -118,7 +125,9 @@ module _ (bench : Bench) (bytes out : List ℕ) where
   fits : (request : List ℕ) → Bytes request → BenchFits (responding bench bytes request out)
   fits [] small = omega arith
   fits (operation ∷ args) small =
-      either BenchFits (isRequest operation args) _ _ (λ r. request-fits operation args (λ i. small (suc i)) r bench bytes out) (omega arith)
+      either BenchFits (isRequest operation args) _ _
+      (λ r. request-fits operation args (λ i. small (suc i)) r bench bytes out)
+      (omega arith)
 
   -- what a request does, and the size of its response
   pub done-fits : (request : List ℕ) → Bytes request → (done : Done) (bytes′ out′ : List ℕ)

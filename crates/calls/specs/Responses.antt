@@ -131,7 +131,8 @@ pub record Responded : Type 0 where
   pub size : ℕ
   pub output : List ℕ
 
--- one of so many bytes; where the output has no room for it there is none, which does not happen: main.rt has room for the longest
+-- one of so many bytes; where the output has no room for it there is none, which does not happen: none is longer than 40,000 bytes
+-- (bench::respond), and main.rt has room for so many
 abbrev pub roomFor : (size : ℕ) → (out with : List ℕ) → Responded
 roomFor size out with =
     cond (ltb (length out) size) (record { size = 0; output = out }) (record { size = size; output = with })
