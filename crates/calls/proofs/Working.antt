@@ -1,12 +1,13 @@
 -- Places in the input and the output, one request, and one after the other.
 use Prim.Native.Nat.{ℕ, zero, suc, _+_, _-_, _≤_, _<_}
 use mathlib.Core.Path.{_≡_, refl, sym, ap, _∙_}
-use mathlib.Core.Bool.{Bool, true, false}
+use mathlib.Core.Bool.{Bool, true, false, cond}
 use mathlib.Core.List.{List}
 use native.Mathlib.Omega.{arith}
 use lib.ListN.{length, take, drop, length-take, length-drop}
 use lib.Seq.{take-all, take-append-seam}
-use borrow.Author.Tests.{le-leb, lt-leb, ne-eqb}
+use lib.Dec.{leb}
+use borrow.Author.Tests.{le-leb, lt-leb, leb-true, ne-eqb}
 use borrow.Rule.Slice.PartMut.{midOf, putMid}
 use Rattle.copying.specs.Copy.{copied}
 use Rattle.pipes.specs.Holding.{ReadOn, left, moved}
@@ -16,7 +17,7 @@ use Rattle.calls.specs.declared.Work.{Work}
 use Rattle.calls.specs.Requests.{number2At, bytesBetween}
 use Rattle.calls.specs.Responses.{number2Bytes}
 use Rattle.calls.specs.Benches.{asBench, responding}
-use Rattle.calls.specs.Working.{requestEnd, spanAt, startAt, responseEnd, WorkDone, asWork, workedOne, worked, restOf, GoesOn}
+use Rattle.calls.specs.Working.{requestEnd, spanAt, startAt, WorkDone, asWork, workedOne, worked, restOf, GoesOn}
 use Rattle.calls.proofs.Parts.{part-back}
 
 module _ (input : List ℕ) (at : ℕ) where
@@ -41,17 +42,16 @@ module _ (room filled most : ℕ) where
   unfolding startAt
   start-in h = rw (le-leb _ _ h)
 
-module _ (room start size : ℕ) where
-  pub end-over : room < start + size → start ≡ responseEnd room start size
-  unfolding responseEnd
-  end-over h = rw (lt-leb _ _ h)
-
-  pub end-in : start + size ≤ room → start + size ≡ responseEnd room start size
-  unfolding responseEnd
-  end-in h = rw (le-leb _ _ h)
+  pub start-room : (start : ℕ) → start ≡ startAt room filled most → (start ≡ 0 → ⊥) → start + most ≤ room
+  unfolding startAt
+  start-room start e n = go (leb (filled + 2 + most) room) refl e
+    where
+      go : (b : Bool) → b ≡ leb (filled + 2 + most) room → start ≡ cond b (filled + 2) 0 → start + most ≤ room
+      go true t s = omega (arith, leb-true (filled + 2 + most) room (sym t))
+      go false t s = absurd (n s)
 
 -- a request whose response was written from `start` on
-pub step-done : (work : Work) (bytes input output : List ℕ) (span : Span) (start : ℕ) (done : Done) (bytes′ part output′ : List ℕ) (end : ℕ)
+pub step-done : (work : Work) (bytes input output : List ℕ) (span : Span) (start : ℕ) (done : Done) (bytes′ part output′ : List ℕ)
     → span ≡ spanAt input (work .at)
     → span .to ≤ length input
     → start ≡ startAt (length output) (work .filled) (length bytes)
@@ -62,14 +62,13 @@ pub step-done : (work : Work) (bytes input output : List ℕ) (span : Span) (sta
     → asBench done bytes′ part
     ≡ responding (work .bench) bytes (take (span .to - span .from) (drop (span .from) input)) (midOf start (length output - start) output)
     → output′ ≡ copied (putMid start (length output - start) output part) (work .filled) (number2Bytes (done .size))
-    → end ≡ responseEnd (length output) start (done .size)
-    → asWork (record { bench = done .bench; at = span .to; filled = end; going = true }) bytes′ output′ ≡ workedOne work bytes input output
+    → asWork (record { bench = done .bench; at = span .to; filled = start + done .size; going = true }) bytes′ output′ ≡ workedOne work bytes input output
 unfolding workedOne bytesBetween
-step-done work bytes input output span start done bytes′ part output′ end span-is to-in start-is start-in′ to-not start-not size-is done-is output-is end-is =
+step-done work bytes input output span start done bytes′ part output′ span-is to-in start-is start-in′ to-not start-not size-is done-is output-is =
     let mid = take-all (length output - start) (drop start output) (simp length-drop (omega arith)) in
     let size : length part ≡ length output - start = size-is ∙ ap length mid ∙ length-drop start output in
     let back = part-back output start (length output - start) part size in
-    rw (sym span-is, sym start-is, ne-eqb _ _ to-not, ne-eqb _ _ start-not, le-leb _ _ to-in, sym (rw mid at done-is), output-is, back, end-is)
+    rw (sym span-is, sym start-is, ne-eqb _ _ to-not, ne-eqb _ _ start-not, le-leb _ _ to-in, sym (rw mid at done-is), output-is, back)
 
 module _ (done : WorkDone) (input : List ℕ) where
   pub worked-more : (turns : ℕ) → 0 < turns → done .work .going ≡ true

@@ -34,10 +34,6 @@ spanAt input at =
 unfoldable pub startAt : (room filled most : ℕ) → ℕ
 startAt room filled most = cond (leb (filled + 2 + most) room) (filled + 2) 0
 
--- where one of that size ends; one that does not end within the output, which none does, is taken for empty
-unfoldable pub responseEnd : (room start size : ℕ) → ℕ
-responseEnd room start size = cond (leb (start + size) room) (start + size) start
-
 -- where the work stands, the bytes, and the output
 pub record WorkDone : Type 0 where
   pub work : Work
@@ -57,7 +53,7 @@ respondedTo work span start bytes input output =
     let done = responding (work .bench) bytes (bytesBetween input (span .from) (span .to)) (drop start output) in
     let size = done .response .size in
     asWork
-    (record { bench = done .bench; at = span .to; filled = responseEnd (length output) start size; going = true })
+    (record { bench = done .bench; at = span .to; filled = start + size; going = true })
     (done .bytes)
     (copied (written output start (done .response .output)) (work .filled) (number2Bytes size))
 

@@ -15,7 +15,7 @@ ghost use mathlib.Core.Path.{_≡_};
 ghost use Prim.Native.Nat.{_≤_};
 ghost use mathlib.Core.Bool.{false};
 ghost use lib.ListN.{length};
-ghost use Rattle.calls.specs.Working.{spanAt, startAt, responseEnd, stoppedWork, asWork, workedOne, workedOff};
+ghost use Rattle.calls.specs.Working.{spanAt, startAt, stoppedWork, asWork, workedOne, workedOff};
 ghost use Rattle.calls.specs.Working.{GoesOn, Turned, firstBytes};
 
 // Where the work stands on a filled input: the place of the next request, and how much of the
@@ -89,19 +89,6 @@ fn start_of(room: usize, filled: usize, most: usize) -> usize
     start
 }
 
-// Where a response of that size ends; each ends within the output.
-fn end_of(room: usize, start: usize, size: usize) -> usize
-    ensures { λ r. ⌜ r ≡ responseEnd room start size ⌝ }
-{
-    if start > room {
-        return start;
-    }
-    if size > room - start {
-        return start;
-    }
-    start + size
-}
-
 fn stopped(work: Work) -> Work
     ensures { λ r. ⌜ r ≡ stoppedWork work ⌝ }
 {
@@ -110,9 +97,10 @@ fn stopped(work: Work) -> Work
     next
 }
 
-// Works off one request, if one is whole and the output has room for any response: the longest is
-// that of STORE, all bytes.
+// Works off one request, if one is whole and the output has room for any response: none is longer
+// than that of STORE, all bytes.
 fn step(work: Work, bytes: &mut [u8], input: &[u8], output: &mut [u8]) -> Work
+    requires { ⌜ length (now bytes) ≡ 40000 ⌝ }
     ensures { λ r. ⌜ asWork r (now (bytes .exit)) (now (output .exit)) ≡ workedOne work (now (bytes .entry)) (now (input .entry)) (now (output .entry)) ⌝ }
 {
     let filled = work.filled;
@@ -135,7 +123,7 @@ fn step(work: Work, bytes: &mut [u8], input: &[u8], output: &mut [u8]) -> Work
     Work {
         bench: next,
         at: to,
-        filled: end_of(room, start, size),
+        filled: start + size,
         going: true,
     }
 }
@@ -143,6 +131,7 @@ fn step(work: Work, bytes: &mut [u8], input: &[u8], output: &mut [u8]) -> Work
 // Works off the requests of an input, of which there are fewer than it has bytes, while the output
 // has room.
 fn work_off(bench: Bench, bytes: &mut [u8], input: &[u8], output: &mut [u8]) -> Work
+    requires { ⌜ length (now bytes) ≡ 40000 ⌝ }
     ensures { λ r. ⌜ asWork r (now (bytes .exit)) (now (output .exit)) ≡ workedOff bench (now (bytes .entry)) (now (input .entry)) (now (output .entry)) ⌝ }
 {
     let mut work = Work {
@@ -195,7 +184,7 @@ fn go_on(input: &mut [u8], at: usize, held: usize, output: &[u8], filled: usize)
 
 // Works off what is held of the input, writes the responses and reads on.
 fn turn(session: Session, bytes: &mut [u8], input: &mut [u8], output: &mut [u8]) -> Session
-    requires { ⌜ session .held ≤ length (now input) ⌝ }
+    requires { ⌜ (length (now bytes) ≡ 40000) × (session .held ≤ length (now input)) ⌝ }
     ensures { λ r. ⌜ Turned session (now (bytes .entry)) (now (input .entry)) (now (output .entry)) r (now (bytes .exit)) (now (input .exit)) (now (output .exit)) ⌝ }
 {
     let bench = session.bench;

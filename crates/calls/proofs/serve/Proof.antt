@@ -1,8 +1,8 @@
 -- `calls::serve` meets its contract: the turns run out, the lengths stay, and what is held is within the input.
+use Prim.Native.Nat.{ℕ, _≤_}
+use lib.ListN.{length, length-replicate}
+use mathlib.Core.Path.{_≡_, ap, _∙_}
 use borrow.Author.Needs.{needs}
-use Prim.Native.Nat.{_≤_}
-use mathlib.Core.Path.{_≡_}
-use lib.ListN.{length}
 use Rattle.calls.proofs.serve.Statement.{statement}
 use Rattle.calls.proofs.serve.Tie as tie
 
@@ -20,7 +20,7 @@ loop-holds : tie.Need-loop-holds Inv-loop μ-loop
 loop-holds c = search needs
 
 turn-requires : tie.Need-turn-requires Inv-loop μ-loop
-turn-requires c κs = search needs
+turn-requires c κs = (c .before .before .before .before .before .loop .inv .0 ∙ ap length (c .before .before .before .before .before .before .before .before .before .before .pre .0) ∙ length-replicate {A = ℕ} 40000 0, c .before .before .before .before .before .loop .inv .3)
 
 sub-turns : tie.Need-sub-turns Inv-loop μ-loop
 sub-turns c = search needs

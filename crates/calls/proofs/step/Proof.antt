@@ -1,6 +1,7 @@
 -- `calls::step` meets its contract.
+use native.Mathlib.Omega.{arith}
 use Rattle.calls.specs.Working.{workedOne}
-use Rattle.calls.proofs.Working.{step-done}
+use Rattle.calls.proofs.Working.{start-room, step-done}
 use borrow.Author.Tests.{ne-eqb}
 use mathlib.Core.Path.{sym}
 use borrow.Author.Needs.{needs}
@@ -51,8 +52,8 @@ respond-requires c κs = search needs
 put-number-requires : tie.Need-put-number-requires
 put-number-requires c κs = search needs
 
-end-of-requires : tie.Need-end-of-requires
-end-of-requires c κs = search needs
+add-t15 : tie.Need-add-t15
+add-t15 c = omega (arith, start-room _ _ _ _ (c .before .before .before .before .before .before .before .before .before .before .before .before .before .before .before .before .start-of .ensures .1) (c .before .before .before .before .before .before .before .before .before .before .before .before .before .before .if2 .left), c .before .before .before .before .before .before .before .before .before .respond .ensures .1, c .before .before .before .before .before .before .before .before .before .before .before .before .before .before .before .before .before .before .before .before .before .pre, c .before .before .before .before .before .before .before .before .before .before .before .before .before .before .before .before .before .before .before .before .before .good)
 
 same-length : tie.Need-same-length
 same-length c = search needs
@@ -61,7 +62,7 @@ same-length-2 : tie.Need-same-length-2
 same-length-2 c = search needs
 
 returns-3 : tie.Need-returns-3
-returns-3 c = let a = c .before .before .before .before .before .before .before .before .before .before .before .before .before .before .before .before .before .before .before .before .before .before .args in step-done (a .work) (a .bytes .now) (a .input .now) (a .output .now) (c .before .before .before .before .before .before .before .before .before .before .before .before .before .before .before .before .before .before .request-at .result) (c .before .before .before .before .before .before .before .before .before .before .before .before .before .before .before .before .before .start-of .result) (c .before .before .before .before .before .before .before .before .before .before .respond .result) _ _ _ _ (c .before .before .before .before .before .before .before .before .before .before .before .before .before .before .before .before .before .before .request-at .ensures .1) (c .before .before .before .before .before .before .before .before .before .before .before .before .before .before .before .before .before .before .request-at .ensures .0 .1) (c .before .before .before .before .before .before .before .before .before .before .before .before .before .before .before .before .before .start-of .ensures .1) (c .before .before .before .before .before .before .before .before .before .before .before .before .before .before .before .before .before .start-of .ensures .0) (c .before .before .before .before .before .before .before .before .before .before .before .before .before .before .before .before .if1 .left) (c .before .before .before .before .before .before .before .before .before .before .before .before .before .before .before .if2 .left) (c .before .before .before .before .before .before .before .output .given .0) (c .before .before .before .before .before .before .before .before .before .before .respond .ensures .0) (c .before .before .before .put-number .ensures) (c .end-of .ensures)
+returns-3 c = let a = c .before .before .before .before .before .before .before .before .before .before .before .before .before .before .before .before .before .before .before .before .before .args in step-done (a .work) (a .bytes .now) (a .input .now) (a .output .now) (c .before .before .before .before .before .before .before .before .before .before .before .before .before .before .before .before .before .request-at .result) (c .before .before .before .before .before .before .before .before .before .before .before .before .before .before .before .before .start-of .result) (c .before .before .before .before .before .before .before .before .before .respond .result) _ _ _ (c .before .before .before .before .before .before .before .before .before .before .before .before .before .before .before .before .before .request-at .ensures .1) (c .before .before .before .before .before .before .before .before .before .before .before .before .before .before .before .before .before .request-at .ensures .0 .1) (c .before .before .before .before .before .before .before .before .before .before .before .before .before .before .before .before .start-of .ensures .1) (c .before .before .before .before .before .before .before .before .before .before .before .before .before .before .before .before .start-of .ensures .0) (c .before .before .before .before .before .before .before .before .before .before .before .before .before .before .before .if1 .left) (c .before .before .before .before .before .before .before .before .before .before .before .before .before .before .if2 .left) (c .before .before .before .before .before .before .output .given .0) (c .before .before .before .before .before .before .before .before .before .respond .ensures .0) (c .before .before .put-number .ensures)
 
 pub step-spec : {M : Type 1} → statement M
 step-spec =
@@ -81,7 +82,7 @@ step-spec =
     part-respond-end-2
     respond-requires
     put-number-requires
-    end-of-requires
+    add-t15
     same-length
     same-length-2
     returns-3)

@@ -9,7 +9,7 @@ slice-reshare-prefix-work-off : tie.Need-slice-reshare-prefix-work-off
 slice-reshare-prefix-work-off c = search needs
 
 slice-aggregate-work-off : tie.Need-slice-aggregate-work-off
-slice-aggregate-work-off c = head-size _ _ (c .before .before .before .before .before .before .pre)
+slice-aggregate-work-off c = head-size _ _ (c .before .before .before .before .before .before .pre .1)
 
 work-off-requires : tie.Need-work-off-requires
 work-off-requires c κs = search needs
