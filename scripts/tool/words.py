@@ -18,8 +18,8 @@ BUSES = ["A", "B"]
 COUNTS = ["no", "one", "two", "three", "four", "five", "six"]
 
 KEYWORDS = {
-    *FORMATS, *FLAGS, *PROGRESS, *EXCHANGES, *BUSES, *COUNTS, "let", "each", "quiet", "sample", "room", "and", "or",
-    "any", "code", "mask", "ID", "sources", "groups", "destinations", "header", "frame", "refused", "stopped",
+    *FORMATS, *FLAGS, *PROGRESS, *EXCHANGES, *BUSES, *COUNTS, "let", "each", "quiet", "after", "sample", "room", "and",
+    "or", "any", "code", "mask", "ID", "sources", "groups", "destinations", "header", "frame", "refused", "stopped",
     "records", "packet", "kept", "broke", "filtered",
 }
 
