@@ -1,6 +1,6 @@
 """Looking at all that the program holds between requests, by calls that change none of it."""
 
-from driver import Operation
+from driver import Failure, Operation
 from exchanges import NODES, TIME
 from lines import answer_text, bus_name, exchange_name, hex_text
 from listings import COUNT
@@ -69,6 +69,8 @@ class Held:
 
     def look(self, name):
         """Each part that is other than at the last look; at the first, every one."""
+        if len(self.bench.drivers) > 1:
+            raise Failure("a look is for one front")
         shown = ""
         for part, (operation, arguments, words) in PARTS.items():
             response = self.bench.ask(operation, arguments)
