@@ -1,5 +1,5 @@
 #!/usr/bin/env python3
-"""Measures the station by value, which only a Rattle program can call: crates/pace.
+"""Measures the station by value, which only a Rattle program can call: crates/pace_program.
 
 usage: bench/pace.py PROGRAM [--quick]
 

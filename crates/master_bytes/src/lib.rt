@@ -1,5 +1,5 @@
 // A master whose state is in lent bytes: the bus chosen for each of 64 nodes, then the kind of the exchange
-// under way (0 none, 1 poll, 2 data block, 3 command), its node and its send count.
+// under way (0 none, 1 poll, 2 data block, 3 command), its node and its send count, and the layout's number.
 use copying::copy_in;
 use format::Outcome;
 use format::Refusal;
@@ -19,15 +19,16 @@ ghost use Rattle.master_bytes.specs.Parts.{RefusedIsThere};
 ghost use Rattle.master_bytes.specs.Claims as claims;
 ghost use Rattle.master_bytes.specs.Examples.{Examples};
 
-// The bytes of a state.
+// The bytes of a state, and the number of their layout, which is the last of them.
 pub struct State;
 
 impl State {
-    pub const SIZE: usize = 67;
+    pub const SIZE: usize = 68;
+    pub const LAYOUT: u8 = 1;
 }
 
 fn chosen_in(state: &[u8]) -> [u8; 64]
-    requires { ⌜ length (now state) ≡ 67 ⌝ }
+    requires { ⌜ length (now state) ≡ 68 ⌝ }
     ensures { λ r. ⌜ r ≡ take 64 (now (state .entry)) ⌝ }
 {
     let mut chosen = [0u8; 64];
@@ -94,7 +95,7 @@ fn activity_bytes(activity: Activity) -> [u8; 3]
 }
 
 fn put(state: &mut [u8], master: Master)
-    requires { ⌜ length (now state) ≡ 67 ⌝ }
+    requires { ⌜ length (now state) ≡ 68 ⌝ }
     ensures { λ _. ⌜ now (state .exit) ≡ stateBytes master ⌝ }
 {
     let chosen = master.chosen;
@@ -102,6 +103,7 @@ fn put(state: &mut [u8], master: Master)
     copy_in(state, 0, &chosen);
     let bytes = activity_bytes(activity);
     copy_in(state, 64, &bytes);
+    state[67] = State::LAYOUT;
 }
 
 fn is_state(state: &[u8]) -> bool
@@ -110,11 +112,11 @@ fn is_state(state: &[u8]) -> bool
     if state.len() != State::SIZE {
         return false;
     }
-    activity_written(state[64], state[65], state[66])
+    activity_written(state[64], state[65], state[66]) & (state[67] == State::LAYOUT)
 }
 
 fn load(state: &[u8]) -> Master
-    requires { ⌜ length (now state) ≡ 67 ⌝ }
+    requires { ⌜ length (now state) ≡ 68 ⌝ }
     ensures { λ r. ⌜ r ≡ masterIn (now (state .entry)) ⌝ }
 {
     let chosen = chosen_in(state);
@@ -128,7 +130,7 @@ fn load(state: &[u8]) -> Master
 // Answers as a call does, and writes the master that it hands back; of a refusal, whose master is in the bytes
 // already, nothing is stored.
 fn hand_back(state: &mut [u8], moved: Moved) -> Answer
-    requires { ⌜ length (now state) ≡ 67 ⌝ }
+    requires { ⌜ length (now state) ≡ 68 ⌝ }
     requires { ⌜ RefusedIsThere (now state) moved ⌝ }
     ensures { λ r. ⌜ calls.masterBytesAfter r (now (state .exit)) ≡ calls.movedInBytes (exchanges.masterAfter moved) ⌝ }
 {

@@ -10,6 +10,7 @@ use packet::write_piece;
 use slot::Key;
 use station_bytes::format_of;
 use stream::Answer;
+use stream::Area;
 ghost use mathlib.Core.Path.{_≡_};
 ghost use Prim.Native.Nat.{_%_};
 ghost use lib.ListN.{length, getD};
@@ -17,14 +18,14 @@ ghost use Rattle.format.specs.Refusals as outcomes;
 ghost use Rattle.stream.specs.Answers as replies;
 ghost use Rattle.master.specs.Exchanges as exchanges;
 ghost use Rattle.packet.specs.Send as sending;
-ghost use Rattle.filter.specs.Filters.{accepts};
+ghost use Rattle.filter.specs.Filters.{accepts, eitherAccepts, rowPair};
 ghost use Rattle.station.specs.Read.{lengthOf};
 ghost use Rattle.station_bytes.specs.Calls.{receiveIn, openIn, closeIn, readIn};
 ghost use Rattle.master_bytes.specs.Calls as masters;
 ghost use Rattle.watch_bytes.specs.States as watches;
-ghost use Rattle.siljuvatt.specs.Answers.{refusedWord, brokeWord, outcomeWord, replyWord, toldWord};
+ghost use Rattle.siljuvatt.specs.Answers.{release, refusedWord, brokeWord, outcomeWord, replyWord, toldWord, resetWord};
 ghost use Rattle.siljuvatt.specs.Arguments.{noFields, extendedFields, standardFields, fieldsFrom, keyFrom};
-ghost use Rattle.siljuvatt.specs.Calls.{countIn, newIn, startAfter, rowIn};
+ghost use Rattle.siljuvatt.specs.Calls.{countIn, newIn, startAfter};
 ghost use Rattle.siljuvatt.specs.Claims.{OneWord, Small, ReadsThere};
 ghost use Rattle.siljuvatt.specs.Bounds.{LibraryBounds};
 
@@ -68,9 +69,9 @@ fn reply_word(answer: Answer) -> u32
     ensures { λ r. ⌜ r ≡ replyWord (replies.meaning answer) ⌝ }
 {
     match answer {
-        Answer::Packet { length, broke } => 65536 + low(length) + broke_word(broke),
-        Answer::Kept { broke } => 131072 + broke_word(broke),
-        Answer::Filtered => 196608,
+        Answer::Packet { length, broke } => 262144 + low(length) + broke_word(broke),
+        Answer::Kept { broke } => 327680 + broke_word(broke),
+        Answer::Filtered => 393216,
         Answer::Refused(name) => refused(name),
     }
 }
@@ -79,10 +80,20 @@ fn told_word(answer: master::Answer) -> u32
     ensures { λ r. ⌜ r ≡ toldWord (exchanges.meaning answer) ⌝ }
 {
     match answer {
-        master::Answer::Send(bus) => 65536 + wide(bus),
-        master::Answer::Done => 131072,
-        master::Answer::GaveUp => 196608,
+        master::Answer::Send(bus) => 458752 + wide(bus),
+        master::Answer::Done => 524288,
+        master::Answer::GaveUp => 589824,
         master::Answer::Refused(name) => refused(name),
+    }
+}
+
+// Where a check says of bus A, and beside it of bus B, that it is to be reset: bits that no refusal has.
+fn reset_word(outcome: Outcome) -> u32
+    ensures { λ r. ⌜ r ≡ resetWord (outcomes.meaning outcome) ⌝ }
+{
+    match outcome {
+        Outcome::Value(n) => (n % 4) as u32 * 33554432,
+        Outcome::Refused(name) => refused(name),
     }
 }
 
@@ -142,6 +153,14 @@ fn format_in(state: &[u8]) -> u8
     ensures { λ r. ⌜ r ≡ getD (now (state .entry)) 128 0 ⌝ }
 {
     if 128 < state.len() { state[128] } else { 0 }
+}
+
+// The release of the library: 65,536 × major + 256 × minor + patch.
+#[no_mangle]
+pub extern "C" fn siljuvatt_version() -> u32
+    ensures { λ r. ⌜ r ≡ release ⌝ }
+{
+    512
 }
 
 // The number of pieces of a packet of that size, or: FIELD, SIZE.
@@ -233,7 +252,7 @@ pub extern "C" fn siljuvatt_read(state: &[u8], store: &[u8], slot: usize, start:
 {
     match station_bytes::read_length(state, store, slot) {
         Outcome::Value(n) => {
-            *start = 2048 * slot;
+            *start = Area::SIZE * slot;
             low(n)
         }
         Outcome::Refused(name) => refused(name),
@@ -252,28 +271,12 @@ pub extern "C" fn siljuvatt_filter_accepts(code: u16, mask: u16, id: u16) -> boo
     filter.accepts(id)
 }
 
-// 1 if the pair of filters of a row of Table A.1 accepts ID.28 to ID.13, else 0, or: FIELD.
+// Whether the pair of filters of a row of Table A.1 accepts ID.28 to ID.13.
 #[no_mangle]
-pub extern "C" fn siljuvatt_row_accepts(row: &[u8], id: u16) -> u32
-    ensures { λ r. ⌜ r ≡ outcomeWord (rowIn (now (row .entry)) id) ⌝ }
+pub extern "C" fn siljuvatt_row_accepts(row: &[u8; 8], id: u16) -> bool
+    ensures { λ r. ⌜ r ≡ eitherAccepts (rowPair (now (row .entry))) id ⌝ }
 {
-    if row.len() != 8 {
-        return refused(Refusal::Field);
-    }
-    let pair = Pair::from_row([
-        row[0],
-        row[1],
-        row[2],
-        row[3],
-        row[4],
-        row[5],
-        row[6],
-        row[7],
-    ]);
-    if pair.accepts(id) {
-        return 1;
-    }
-    0
+    Pair::from_row(*row).accepts(id)
 }
 
 // Makes the bytes those of a new master and answers 0, or: STATE.
@@ -330,13 +333,13 @@ pub extern "C" fn siljuvatt_watch_heard(state: &mut [u8], bus: u8, time: u32) ->
     outcome_word(watch_bytes::heard(state, bus, time))
 }
 
-// Which buses are to be reset now: 0 none, 1 A, 2 B, 3 both, or: STATE.
+// Which buses are to be reset now, a bit for each, or: STATE.
 #[no_mangle]
 pub extern "C" fn siljuvatt_watch_check(state: &mut [u8], time: u32) -> u32
-    ensures { λ r. ⌜ r ≡ outcomeWord (watches.checking (now (state .entry)) time .answer) ⌝ }
+    ensures { λ r. ⌜ r ≡ resetWord (watches.checking (now (state .entry)) time .answer) ⌝ }
     ensures { λ _. ⌜ now (state .exit) ≡ watches.checking (now (state .entry)) time .state ⌝ }
 {
-    outcome_word(watch_bytes::check(state, time))
+    reset_word(watch_bytes::check(state, time))
 }
 
 // The claims of this crate. It does nothing: its contract ties each claim to its proof.

@@ -1,5 +1,5 @@
-// A station whose state is in lent bytes: sixteen records of eight bytes, then the format. A record is
-// two numbers of 32 bits: the key's and the progress's.
+// A station whose state is in lent bytes: sixteen records of eight bytes, the format, the layout's number. A
+// record is two numbers of 32 bits: the key's and the progress's.
 use copying::copy_in;
 use format::Format;
 use format::Outcome;
@@ -35,11 +35,12 @@ ghost use Rattle.station_bytes.specs.Parts.{keyFits, progressFits, recor
 ghost use Rattle.station_bytes.specs.Claims as claims;
 ghost use Rattle.station_bytes.specs.Bounds.{StateBounds};
 
-// The bytes of a state.
+// The bytes of a state, and the number of their layout, which is the last of them.
 pub struct State;
 
 impl State {
-    pub const SIZE: usize = 129;
+    pub const SIZE: usize = 130;
+    pub const LAYOUT: u8 = 1;
 }
 
 // The number in the four bytes from place at on.
@@ -63,7 +64,7 @@ fn is_there(state: &[u8], at: usize, number: u32) -> bool
     requires { ⌜ at + 4 ≤ length (now state) ⌝ }
     ensures { λ r. ⌜ IsThere (now (state .entry)) at number r ⌝ }
 {
-    word_of(state[at], state[at + 1], state[at + 2], state[at + 3]) == number
+    word_at(state, at) == number
 }
 
 // Writes a number to the four bytes from place at on, unless it stands there: a call that changes
@@ -145,7 +146,7 @@ fn code_of(closed: bool, key: u32, i: u32) -> u32
 // Whether each record by itself is that of a sound slot; the codes of the records. No branch in the
 // loop.
 fn scan(format: Format, state: &[u8], codes: &mut [u32; 16]) -> bool
-    requires { ⌜ (length (now state) ≡ 129) × (length (now codes) ≡ 16) ⌝ }
+    requires { ⌜ (length (now state) ≡ 130) × (length (now codes) ≡ 16) ⌝ }
     ensures { λ r. ⌜ r ≡ recordsGood format (now (state .entry)) 0 16 ⌝ }
     ensures { λ _. ⌜ now (codes .exit) ≡ recordCodes (now (state .entry)) 0 16 ⌝ }
 {
@@ -175,7 +176,7 @@ fn sound_codes(state: &[u8], codes: &mut [u32; 16]) -> bool
         return false;
     }
     let number = state[128];
-    if number > 1 {
+    if (number > 1) | (state[129] != State::LAYOUT) {
         return false;
     }
     let format = format_of(number);
@@ -225,7 +226,7 @@ fn step_at(
     state: &mut [u8],
     store: &mut [u8],
 ) -> Answer
-    requires { ⌜ (i < 16) × (length (now state) ≡ 129) × (length (now store) ≡ 32768) × (head .start ≤ length (now image)) × (length (now image) - head .start ≤ 8) ⌝ }
+    requires { ⌜ (i < 16) × (length (now state) ≡ 130) × (length (now store) ≡ 32768) × (head .start ≤ length (now image)) × (length (now image) - head .start ≤ 8) ⌝ }
     ensures { λ r. ⌜ StepsIn format i (frameOf head (now (image .entry))) (now (state .entry)) (now (store .entry)) r (now (state .exit)) (now (store .exit)) ⌝ }
 {
     let at = 8 * i + 4;
@@ -287,15 +288,16 @@ pub fn new(state: &mut [u8], format: Format) -> Outcome
     if state.len() != State::SIZE {
         return Outcome::Refused(Refusal::State);
     }
-    let mut bytes = [0u8; 129];
+    let mut bytes = [0u8; 130];
     bytes[128] = number_of(format);
+    bytes[129] = State::LAYOUT;
     copy_in(state, 0, &bytes);
     Outcome::Value(0)
 }
 
 // The first slot whose record is a closed one's, 16 if there is none.
 fn first_closed(state: &[u8]) -> usize
-    requires { ⌜ length (now state) ≡ 129 ⌝ }
+    requires { ⌜ length (now state) ≡ 130 ⌝ }
     ensures { λ r. ⌜ ((format : Format) → r ≡ place isClosed (slotsFrom format (now (state .entry)) 0 16)) ⌝ }
 {
     let mut i: usize = 0;

@@ -1,5 +1,5 @@
 // A watch whose state is in lent bytes: the last heard time of bus A and of bus B, each a number of 32 bits,
-// low byte first.
+// low byte first, and the layout's number.
 use copying::copy_in;
 use format::Outcome;
 use format::Refusal;
@@ -7,44 +7,46 @@ use watch::Watch;
 use words::word_bytes;
 use words::word_of;
 ghost use mathlib.Core.Path.{_≡_};
-ghost use Prim.Native.Nat.{_+_, _≤_};
 ghost use lib.ListN.{length};
-ghost use Rattle.words.specs.Words.{wordAt};
 ghost use Rattle.watch_bytes.specs.States as states;
 ghost use Rattle.watch_bytes.specs.Claims as claims;
 
-// The bytes of a state.
+// The bytes of a state, and the number of their layout, which is the last of them.
 pub struct State;
 
 impl State {
-    pub const SIZE: usize = 8;
+    pub const SIZE: usize = 9;
+    pub const LAYOUT: u8 = 1;
 }
 
-// The number in the four bytes from place at on.
-fn word_at(state: &[u8], at: usize) -> u32
-    requires { ⌜ at + 4 ≤ length (now state) ⌝ }
-    ensures { λ r. ⌜ r ≡ wordAt (now (state .entry)) at ⌝ }
+// Whether the bytes are a watch's.
+fn is_state(state: &[u8]) -> bool
+    ensures { λ r. ⌜ r ≡ states.isState (now (state .entry)) ⌝ }
 {
-    word_of(state[at], state[at + 1], state[at + 2], state[at + 3])
+    if state.len() != State::SIZE {
+        return false;
+    }
+    state[8] == State::LAYOUT
 }
 
 fn put(state: &mut [u8], watch: Watch)
-    requires { ⌜ length (now state) ≡ 8 ⌝ }
+    requires { ⌜ length (now state) ≡ 9 ⌝ }
     ensures { λ _. ⌜ now (state .exit) ≡ states.stateBytes watch ⌝ }
 {
     let a = word_bytes(watch.a);
     let b = word_bytes(watch.b);
     copy_in(state, 0, &a);
     copy_in(state, 4, &b);
+    state[8] = State::LAYOUT;
 }
 
 fn load(state: &[u8]) -> Watch
-    requires { ⌜ length (now state) ≡ 8 ⌝ }
+    requires { ⌜ length (now state) ≡ 9 ⌝ }
     ensures { λ r. ⌜ r ≡ states.watchIn (now (state .entry)) ⌝ }
 {
     Watch {
-        a: word_at(state, 0),
-        b: word_at(state, 4),
+        a: word_of(state[0], state[1], state[2], state[3]),
+        b: word_of(state[4], state[5], state[6], state[7]),
     }
 }
 
@@ -63,7 +65,7 @@ pub fn new(state: &mut [u8], time: u32) -> Outcome
 pub fn heard(state: &mut [u8], bus: u8, time: u32) -> Outcome
     ensures { λ r. ⌜ states.watchBytesAfter r (now (state .exit)) ≡ states.hearing (now (state .entry)) bus time ⌝ }
 {
-    if state.len() != State::SIZE {
+    if !is_state(state) {
         return Outcome::Refused(Refusal::State);
     }
     let heard = load(state).heard(bus, time);
@@ -95,7 +97,7 @@ fn resets(a: bool, b: bool) -> usize
 pub fn check(state: &mut [u8], time: u32) -> Outcome
     ensures { λ r. ⌜ states.watchBytesAfter r (now (state .exit)) ≡ states.checking (now (state .entry)) time ⌝ }
 {
-    if state.len() != State::SIZE {
+    if !is_state(state) {
         return Outcome::Refused(Refusal::State);
     }
     let checked = load(state).check(time);
