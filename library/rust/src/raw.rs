@@ -1,6 +1,7 @@
 //! The functions of the static library, as include/siljuvatt.h declares them.
 
 extern "C" {
+    pub fn siljuvatt_version() -> u32;
     pub fn siljuvatt_piece_count(format: u8, size: usize) -> u32;
     pub fn siljuvatt_write_piece(
         format: u8,
@@ -39,7 +40,7 @@ extern "C" {
         start: *mut usize,
     ) -> u32;
     pub fn siljuvatt_filter_accepts(code: u16, mask: u16, id: u16) -> bool;
-    pub fn siljuvatt_row_accepts(row: *const u8, row_length: usize, id: u16) -> u32;
+    pub fn siljuvatt_row_accepts(row: *const [u8; 8], id: u16) -> bool;
     pub fn siljuvatt_master_new(master: *mut u8, master_length: usize) -> u32;
     pub fn siljuvatt_master_start(master: *mut u8, master_length: usize, kind: u8, node: u8)
         -> u32;
