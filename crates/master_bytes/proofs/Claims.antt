@@ -23,13 +23,13 @@ use Rattle.master.specs.Exchanges as exchanges
 use Rattle.master.specs.Runs.{Call, start, reply, timeout, call}
 use Rattle.master.specs.Claims as masters
 use Rattle.master.proofs.Claims.{refused-keeps as master-keeps}
-use Rattle.master_bytes.specs.States.{kindNumber, activityBytes, stateBytes, kindOf, activityOf, masterIn, activityWritten, isState}
+use Rattle.master_bytes.specs.States.{kindNumber, activityBytes, lastBytes, layoutNumber, stateBytes, kindOf, activityOf, masterIn, activityWritten, isState}
 use Rattle.master_bytes.specs.Calls.{MasterBytesAfter, movedInBytes, notState, onState, kindHandedIn, startingAs, renew, starting, replying, timingOut}
 use Rattle.master_bytes.specs.Parts.{RefusedIsThere}
 use Rattle.master_bytes.specs.Claims.{ReadBack, WrittenIsState, WrittenBack, NoMasters, RefusedKeeps}
-use Rattle.master_bytes.proofs.Laws.{three, sized, no-master}
+use Rattle.master_bytes.proofs.Laws.{four, sized, no-master}
 
--- ---- the three bytes of an exchange
+-- ---- the last bytes: the three of an exchange, and the layout's number
 
 kind-back : (kind : Kind) → (eqb (kindNumber kind) 0 ≡ false) × (kindOf (kindNumber kind) ≡ kind)
 kind-back Poll = (refl, refl)
@@ -46,12 +46,16 @@ is-written Command node sends = refl
 abbrev OfBytes : {A : Type 0} → (ℕ → ℕ → ℕ → A) → List ℕ → A
 OfBytes f bytes = f (getD bytes 0 0) (getD bytes 1 0) (getD bytes 2 0)
 
-activity-back : (activity : Activity) → (OfBytes activityOf (activityBytes activity) ≡ activity) × (OfBytes activityWritten (activityBytes activity) ≡ true)
+activity-back : (activity : Activity) → (OfBytes activityOf (lastBytes activity) ≡ activity) × (OfBytes activityWritten (lastBytes activity) ≡ true)
 unfolding activityWritten allTrue
 activity-back Idle = (refl, refl)
 activity-back (UnderWay exchange) =
     let k = kind-back (exchange .kind) in
     (rw (k .0, k .1), is-written (exchange .kind) (exchange .node) (exchange .sends))
+
+laid-out : (activity : Activity) → getD (lastBytes activity) 3 0 ≡ layoutNumber
+laid-out Idle = refl
+laid-out (UnderWay exchange) = refl
 
 kind-again : (kind : ℕ) → 1 ≤ kind → kind ≤ 3 → kindNumber (kindOf kind) ≡ kind
 kind-again kind low high = go (eqb kind 1) (eqb kind 2) refl refl
@@ -78,17 +82,17 @@ activity-again kind node sends = go (eqb kind 0) refl
 -- ---- the bytes of a master
 
 module _ (master : Master) (n : length (master .chosen) ≡ 64) where
-  behind : (i : ℕ) → getD (stateBytes master) (64 + i) 0 ≡ getD (activityBytes (master .activity)) i 0
+  behind : (i : ℕ) → getD (stateBytes master) (64 + i) 0 ≡ getD (lastBytes (master .activity)) i 0
   unfolding stateBytes
-  behind i = ap (λ k. getD (stateBytes master) (k + i) 0) (sym n) ∙ getD-append-add (master .chosen) (activityBytes (master .activity)) i 0
+  behind i = ap (λ k. getD (stateBytes master) (k + i) 0) (sym n) ∙ getD-append-add (master .chosen) (lastBytes (master .activity)) i 0
 
   ahead : take 64 (stateBytes master) ≡ master .chosen
   unfolding stateBytes
-  ahead = take-at (master .chosen) (activityBytes (master .activity)) 64 n
+  ahead = take-at (master .chosen) (lastBytes (master .activity)) 64 n
 
-  all-bytes : length (stateBytes master) ≡ 67
+  all-bytes : length (stateBytes master) ≡ 68
   unfolding stateBytes
-  all-bytes = rw (length-append, n, three (master .activity))
+  all-bytes = rw (length-append, n, four (master .activity))
 
 pub read-back : ReadBack
 unfolding ReadBack masterIn
@@ -101,15 +105,17 @@ written-is-state master n =
     let bytes = stateBytes master in
     let written : activityWritten (getD bytes 64 0) (getD bytes 65 0) (getD bytes 66 0) ≡ true =
     rw (behind master n 0, behind master n 1, behind master n 2) (activity-back (master .activity) .1) in
-    from-each _ (eq-eqb _ _ (all-bytes master n), (written, tt))
+    from-each _ (eq-eqb _ _ (all-bytes master n), (eq-eqb _ _ (behind master n 3 ∙ laid-out (master .activity)), (written, tt)))
 
 pub written-back : WrittenBack
 unfolding WrittenBack masterIn stateBytes isState
 written-back state s =
     let n = sized state s in
-    let last : drop 64 state ≡ getD state 64 0 ∷ getD state 65 0 ∷ getD state 66 0 ∷ [] =
-    rw (drop-cons state 64 0 (omega arith), drop-cons state 65 0 (omega arith), drop-cons state 66 0 (omega arith), drop-of-length-le state {i = 67} (omega arith)) in
-    rw (activity-again (getD state 64 0) (getD state 65 0) (getD state 66 0) (each _ s .1 .0), ← last) (take-append-drop 64 state)
+    let tests = each _ s in
+    let laid : getD state 67 0 ≡ layoutNumber = eqb-true _ _ (tests .1 .0) in
+    let last : drop 64 state ≡ getD state 64 0 ∷ getD state 65 0 ∷ getD state 66 0 ∷ layoutNumber ∷ [] =
+    rw (drop-cons state 64 0 (omega arith), drop-cons state 65 0 (omega arith), drop-cons state 66 0 (omega arith), drop-cons state 67 0 (omega arith), laid, drop-of-length-le state {i = 68} (omega arith)) in
+    rw (activity-again (getD state 64 0) (getD state 65 0) (getD state 66 0) (tests .1 .1 .0), ← last) (take-append-drop 64 state)
 
 -- ---- the calls
 
@@ -145,7 +151,7 @@ keeps state n given same = go (isState state) refl
 
 renew-keeps : (state : List ℕ) (n : ℕ) → renew state .answer ≡ refused n → renew state .state ≡ state
 unfolding renew
-renew-keeps state n = go (eqb (length state) 67)
+renew-keeps state n = go (eqb (length state) 68)
   where
     left : Bool → MasterBytesAfter ℕ
     left b = cond b (record { answer = value 0; state = stateBytes newMaster }) (notState state)

@@ -13,6 +13,7 @@ unfolding allAfter allTrue guarded chosenBus switched busesInRange chosenSound e
 examples =
     record {
       lengths = (refl, refl, refl, refl, refl, refl);
+      layouts = (refl, refl, refl);
       kinds = (refl, refl, refl, refl, refl);
       written = (refl, refl, refl, refl, refl, refl, refl);
       in-order = (refl, refl, refl, refl);

@@ -12,17 +12,17 @@ use Rattle.master.specs.declared.Activity.the-variants.{Idle, UnderWay}
 use Rattle.master.specs.declared.Master.{Master}
 use Rattle.master.specs.Masters.{sound}
 use Rattle.master.specs.Exchanges as exchanges
-use Rattle.master_bytes.specs.States.{activityBytes, kindOf, isState}
+use Rattle.master_bytes.specs.States.{lastBytes, kindOf, isState}
 use Rattle.master_bytes.specs.Calls.{movedInBytes, notState, onState, isKind, kindHandedIn, startingAs}
 
-pub three : (activity : Activity) → length (activityBytes activity) ≡ 3
-three Idle = refl
-three (UnderWay exchange) = refl
+pub four : (activity : Activity) → length (lastBytes activity) ≡ 4
+four Idle = refl
+four (UnderWay exchange) = refl
 
 module _ (state : List ℕ) where
-  pub sized : isState state ≡ true → length state ≡ 67
+  pub sized : isState state ≡ true → length state ≡ 68
   unfolding isState
-  sized s = eqb-true (length state) 67 (each _ s .0)
+  sized s = eqb-true (length state) 68 (each _ s .0)
 
   module _ (given : exchanges.MasterAfter) where
     pub no-master : isState state ≡ false → notState state ≡ onState state given

@@ -31,9 +31,9 @@ movedInBytes given = record { answer = given .answer; state = stateBytes (given 
 abbrev pub notState : {A : Type 0} → List ℕ → MasterBytesAfter A
 notState state = record { answer = refused (number State); state = state }
 
--- any 67 bytes become a new master's; the answer is 0
+-- any 68 bytes become a new master's; the answer is 0
 unfoldable pub renew : List ℕ → MasterBytesAfter ℕ
-renew state = cond (eqb (length state) 67) (record { answer = value 0; state = stateBytes newMaster }) (notState state)
+renew state = cond (eqb (length state) 68) (record { answer = value 0; state = stateBytes newMaster }) (notState state)
 
 abbrev pub onState : List ℕ → exchanges.MasterAfter → MasterBytesAfter exchanges.Told
 onState state given = cond (isState state) (movedInBytes given) (notState state)

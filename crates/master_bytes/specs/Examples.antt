@@ -8,9 +8,12 @@ use Rattle.format.specs.Refusals.{value, refused}
 use Rattle.master.specs.Exchanges.{Told, send, done, gaveUp}
 use Rattle.master_bytes.specs.Calls.{MasterBytesAfter, renew, starting, replying, timingOut}
 
--- that bus for node 5 and A for every other, then the kind, the node and the send count
+-- that bus for node 5 and A for every other, then the kind, the node and the send count, then the layout's number
+abbrev laidOut : (layout bus kind node sends : ℕ) → List ℕ
+laidOut layout bus kind node sends = replicate 5 0 ++ bus ∷ replicate 58 0 ++ kind ∷ node ∷ sends ∷ layout ∷ []
+
 abbrev bytes : (bus kind node sends : ℕ) → List ℕ
-bytes bus kind node sends = replicate 5 0 ++ bus ∷ replicate 58 0 ++ kind ∷ node ∷ sends ∷ []
+bytes = laidOut 1
 
 abbrev start : (kind node : ℕ) → List ℕ → MasterBytesAfter Told
 start kind node state = starting state kind node
@@ -24,13 +27,17 @@ abbrev SendsOn : MasterBytesAfter Told → (bus : ℕ) → List ℕ → Type 0
 SendsOn given bus state = given ≡ record { answer = value (send bus); state = state }
 
 pub record Examples : Type 0 where
-  -- 67 bytes, no fewer and no more
-  pub lengths : (renew (replicate 66 9) ≡ record { answer = refused 21; state = replicate 66 9 })
-      × (renew (replicate 67 9) ≡ record { answer = value 0; state = bytes 0 0 0 0 })
-      × (renew (replicate 68 9) ≡ record { answer = refused 21; state = replicate 68 9 })
-      × RefusedAs timingOut (replicate 66 0) 21
-      × RefusedAs timingOut (replicate 67 0) 19
-      × RefusedAs timingOut (replicate 68 0) 21
+  -- 68 bytes, no fewer and no more
+  pub lengths : (renew (replicate 67 9) ≡ record { answer = refused 21; state = replicate 67 9 })
+      × (renew (replicate 68 9) ≡ record { answer = value 0; state = bytes 0 0 0 0 })
+      × (renew (replicate 69 9) ≡ record { answer = refused 21; state = replicate 69 9 })
+      × RefusedAs timingOut (replicate 67 1) 21
+      × RefusedAs timingOut (bytes 0 0 0 0) 19
+      × RefusedAs timingOut (replicate 64 0 ++ 0 ∷ 0 ∷ 0 ∷ 1 ∷ 1 ∷ []) 21
+  -- the layout's number is 1: bytes of no layout, all 0, are no master's
+  pub layouts : RefusedAs timingOut (laidOut 0 0 0 0 0) 21
+      × RefusedAs timingOut (laidOut 2 0 0 0 0) 21
+      × RefusedAs (start 1 5) (laidOut 255 0 0 0 0) 21
   -- a kind handed in is 1 to 3
   pub kinds : RefusedAs (start 0 5) (bytes 0 0 0 0) 9
       × SendsOn (start 1 5 (bytes 1 0 0 0)) 1 (bytes 1 1 5 1)

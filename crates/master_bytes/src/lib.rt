@@ -13,7 +13,7 @@ ghost use mathlib.Core.Path.{_≡_};
 ghost use mathlib.Core.Bool.{cond};
 ghost use lib.ListN.{length, take};
 ghost use Rattle.master.specs.Exchanges as exchanges;
-ghost use Rattle.master_bytes.specs.States.{kindNumber, activityBytes, stateBytes, kindOf, activityOf, masterIn, activityWritten, isState};
+ghost use Rattle.master_bytes.specs.States.{kindNumber, lastBytes, stateBytes, kindOf, activityOf, masterIn, activityWritten, isState};
 ghost use Rattle.master_bytes.specs.Calls as calls;
 ghost use Rattle.master_bytes.specs.Parts.{RefusedIsThere};
 ghost use Rattle.master_bytes.specs.Claims as claims;
@@ -24,6 +24,7 @@ pub struct State;
 
 impl State {
     pub const SIZE: usize = 68;
+
     pub const LAYOUT: u8 = 1;
 }
 
@@ -82,14 +83,20 @@ fn kind_number(kind: Kind) -> u8
     }
 }
 
-fn activity_bytes(activity: Activity) -> [u8; 3]
-    ensures { λ r. ⌜ r ≡ activityBytes activity ⌝ }
+// The bytes behind those of the buses: the exchange's, and the layout's number.
+fn last_bytes(activity: Activity) -> [u8; 4]
+    ensures { λ r. ⌜ r ≡ lastBytes activity ⌝ }
 {
     match activity {
-        Activity::Idle => [0, 0, 0],
+        Activity::Idle => [0, 0, 0, State::LAYOUT],
         Activity::UnderWay(exchange) => {
             let kind = exchange.kind;
-            [kind_number(kind), exchange.node, exchange.sends]
+            [
+                kind_number(kind),
+                exchange.node,
+                exchange.sends,
+                State::LAYOUT,
+            ]
         }
     }
 }
@@ -101,9 +108,8 @@ fn put(state: &mut [u8], master: Master)
     let chosen = master.chosen;
     let activity = master.activity;
     copy_in(state, 0, &chosen);
-    let bytes = activity_bytes(activity);
+    let bytes = last_bytes(activity);
     copy_in(state, 64, &bytes);
-    state[67] = State::LAYOUT;
 }
 
 fn is_state(state: &[u8]) -> bool
@@ -112,7 +118,10 @@ fn is_state(state: &[u8]) -> bool
     if state.len() != State::SIZE {
         return false;
     }
-    activity_written(state[64], state[65], state[66]) & (state[67] == State::LAYOUT)
+    if state[67] != State::LAYOUT {
+        return false;
+    }
+    activity_written(state[64], state[65], state[66])
 }
 
 fn load(state: &[u8]) -> Master

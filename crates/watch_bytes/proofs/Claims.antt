@@ -2,14 +2,17 @@
 use Prim.Native.Nat.{ℕ}
 use mathlib.Core.Path.{_≡_, refl, sym, ap, _∙_}
 use mathlib.Core.Bool.{Bool, true, false, cond}
-use mathlib.Core.List.{List, [], _++_, append-nil}
+use mathlib.Core.List.{List, [], _∷_, _++_, append-assoc}
 use native.Mathlib.Omega.{arith}
 use borrow.Author.Tests.{eqb-true}
-use lib.ListN.{length, length-append}
-use lib.Seq.{take-all, take-add}
+use lib.Dec.{eqb}
+use lib.ListN.{length, getD, drop, take-append-drop, drop-of-length-le}
+use lib.Seq.{take-add, drop-cons}
 use Rattle.format.specs.declared.Refusal.{Refusal}
 use Rattle.format.specs.declared.Outcome.the-variants.{Refused}
-use Rattle.format.specs.Refusals.{refused, number, guarded, meaning}
+use Rattle.format.specs.Refusals.{value, refused, number, guarded, meaning}
+use Rattle.format.specs.Tests.{allTrue}
+use Rattle.format.proofs.Tests.{each}
 use Rattle.frame.specs.Claims.{Bytes}
 use Rattle.words.specs.Words.{wordBytes, wordOf, wordAt}
 use Rattle.words.proofs.Laws as words
@@ -18,26 +21,32 @@ use Rattle.watch.specs.declared.Checked.{Checked}
 use Rattle.watch.specs.Watching as watching
 use Rattle.watch.specs.Claims as watches
 use Rattle.watch.proofs.Claims.{refused-keeps as watch-keeps, no-reset-keeps}
-use Rattle.watch_bytes.specs.States.{WatchBytesAfter, stateBytes, watchIn, isState, notState, onState, renew, hearing, resets, checking}
+use Rattle.watch_bytes.specs.States.{WatchBytesAfter, layoutNumber, stateBytes, watchIn, isState, notState, onState, renew, hearing, resets, checking}
 use Rattle.watch_bytes.specs.Claims.{ReadBack, WrittenIsState, WrittenBack, RefusedKeeps, Examples}
 
 pub read-back : ReadBack
 unfolding ReadBack stateBytes watchIn
 read-back watch a b =
-    let first : wordAt (wordBytes (watch .a) ++ wordBytes (watch .b)) 0 ≡ watch .a = words.read-back (watch .a) (wordBytes (watch .b)) a in
-    let second : wordAt (wordBytes (watch .a) ++ wordBytes (watch .b)) 4 ≡ watch .b =
-    rw append-nil at (words.read-after (wordBytes (watch .a)) (watch .b) [] 4 (words.four (watch .a)) b) in
+    let last = wordBytes (watch .b) ++ (layoutNumber ∷ []) in
+    let first : wordAt (wordBytes (watch .a) ++ last) 0 ≡ watch .a = words.read-back (watch .a) last a in
+    let second : wordAt (wordBytes (watch .a) ++ last) 4 ≡ watch .b =
+    words.read-after (wordBytes (watch .a)) (watch .b) (layoutNumber ∷ []) 4 (words.four (watch .a)) b in
     simp (first, second)
 
 pub written-is-state : WrittenIsState
-unfolding WrittenIsState stateBytes isState
-written-is-state watch = rw (length-append, words.four (watch .a), words.four (watch .b))
+unfolding WrittenIsState stateBytes isState wordBytes allTrue
+written-is-state watch = refl
 
 pub written-back : WrittenBack
 unfolding WrittenBack stateBytes watchIn isState
 written-back state bytes h =
-    let n : length state ≡ 8 = eqb-true _ _ h in
-    rw (words.written-at state bytes 0 (omega arith), words.written-at state bytes 4 (omega arith), ← take-add 4 4 state) (take-all 8 state (omega arith))
+    let tests = each _ h in
+    let n : length state ≡ 9 = eqb-true _ _ (tests .0) in
+    let laid : getD state 8 0 ≡ layoutNumber = eqb-true _ _ (tests .1 .0) in
+    let last : drop 8 state ≡ layoutNumber ∷ [] =
+    rw (drop-cons state 8 0 (omega arith), laid, drop-of-length-le state {i = 9} (omega arith)) in
+    rw (words.written-at state bytes 0 (omega arith), words.written-at state bytes 4 (omega arith), ← last, ← append-assoc, ← take-add 4 4 state)
+    (take-append-drop 8 state)
 
 -- ---- the calls
 
@@ -79,19 +88,31 @@ keeps state n given same = go (isState state) refl
     go true s e = same s e
     go false s e = refl
 
+renew-keeps : (state : List ℕ) (time n : ℕ) → renew state time .answer ≡ refused n → renew state time .state ≡ state
+unfolding renew
+renew-keeps state time n = go (eqb (length state) 9)
+  where
+    left : Bool → WatchBytesAfter
+    left b = cond b (record { answer = value 0; state = stateBytes (watching.newWatch time) }) (notState state)
+
+    go : (b : Bool) → left b .answer ≡ refused n → left b .state ≡ state
+    go true e = let z : _≡_ {A = ℕ} 0 1 = cc in absurd (omega arith)
+    go false e = refl
+
 pub refused-keeps : RefusedKeeps
 unfolding RefusedKeeps WrittenBack renew hearing checking watches.RefusedKeeps
 refused-keeps state bytes bus time n = (
-  keeps state n _ (λ s e. let z : _≡_ {A = ℕ} 0 1 = cc in absurd (omega arith)),
+  renew-keeps state time n,
   keeps state n _ (λ s e. ap stateBytes (watch-keeps (watchIn state) bus time n e) ∙ written-back state bytes s),
   keeps state n _ (λ s e. let z : _≡_ {A = ℕ} 0 1 = cc in absurd (omega arith)),
 )
 
 pub examples : Examples
-unfolding isState stateBytes watchIn wordBytes wordOf wordAt renew hearing checking watching.hearing watching.since watching.silent watching.checking guarded
+unfolding allTrue isState stateBytes watchIn wordBytes wordOf wordAt renew hearing checking watching.hearing watching.since watching.silent watching.checking guarded
 examples =
     record {
       lengths = (refl, refl, refl, refl, refl, refl);
+      layouts = (refl, refl, refl, refl);
       times = (refl, refl, refl, refl);
       checks = (refl, refl, refl, refl);
     }

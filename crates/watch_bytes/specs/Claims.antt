@@ -2,7 +2,7 @@
 use Prim.Native.Nat.{ℕ, _^_, _<_}
 use mathlib.Core.Path.{_≡_}
 use mathlib.Core.Bool.{true}
-use mathlib.Core.List.{List, [], _∷_, map}
+use mathlib.Core.List.{List, [], _∷_, _++_, map}
 use lib.ListN.{replicate}
 use Rattle.format.specs.Refusals.{value, refused}
 use Rattle.frame.specs.Claims.{Bytes}
@@ -48,22 +48,36 @@ LastTimesOnBytes =
     watchIn (lastOf (stateBytes watch) givens)
     ≡ record { a = latestTime setsA (watch .a) calls said; b = latestTime setsB (watch .b) calls said }
 
+-- eight bytes of times, then the layout's number
+abbrev laidOut : (layout : ℕ) → List ℕ → List ℕ
+laidOut layout times = times ++ (layout ∷ [])
+
+abbrev bytes : List ℕ → List ℕ
+bytes = laidOut 1
+
 -- examples that hold the layout of the bytes and the calls on them to each of their bounds
 pub record Examples : Type 0 where
-  -- 8 bytes, no fewer and no more; STATE comes before FIELD
-  pub lengths : (renew (replicate 7 9) 0 ≡ record { answer = refused 21; state = replicate 7 9 })
-      × (renew (replicate 9 9) 0 ≡ record { answer = refused 21; state = replicate 9 9 })
-      × (hearing (replicate 7 0) 2 0 ≡ record { answer = refused 21; state = replicate 7 0 })
-      × (hearing (replicate 9 0) 2 0 ≡ record { answer = refused 21; state = replicate 9 0 })
-      × (checking (replicate 7 0) 16000 ≡ record { answer = refused 21; state = replicate 7 0 })
-      × (checking (replicate 9 0) 16000 ≡ record { answer = refused 21; state = replicate 9 0 })
+  -- 9 bytes, no fewer and no more; STATE comes before FIELD
+  pub lengths : (renew (replicate 8 9) 0 ≡ record { answer = refused 21; state = replicate 8 9 })
+      × (renew (replicate 10 9) 0 ≡ record { answer = refused 21; state = replicate 10 9 })
+      × (hearing (replicate 8 1) 2 0 ≡ record { answer = refused 21; state = replicate 8 1 })
+      × (hearing (replicate 10 1) 2 0 ≡ record { answer = refused 21; state = replicate 10 1 })
+      × (checking (replicate 8 1) 16001 ≡ record { answer = refused 21; state = replicate 8 1 })
+      × (checking (replicate 10 1) 16001 ≡ record { answer = refused 21; state = replicate 10 1 })
+  -- the layout's number is 1: bytes of no layout, all 0, are no watch's
+  pub layouts : (hearing (laidOut 0 (replicate 8 0)) 0 7 ≡ record { answer = refused 21; state = replicate 9 0 })
+      × (hearing (laidOut 2 (replicate 8 0)) 0 7 ≡ record { answer = refused 21; state = laidOut 2 (replicate 8 0) })
+      × (checking (laidOut 0 (replicate 8 0)) 16000 ≡ record { answer = refused 21; state = replicate 9 0 })
+      × (checking (laidOut 255 (replicate 8 0)) 16000 ≡ record { answer = refused 21; state = laidOut 255 (replicate 8 0) })
   -- low byte first, bus A first. FIELD: a bus over 1
-  pub times : (renew (replicate 8 9) 0x04030201 ≡ record { answer = value 0; state = 1 ∷ 2 ∷ 3 ∷ 4 ∷ 1 ∷ 2 ∷ 3 ∷ 4 ∷ [] })
-      × (hearing (replicate 8 0) 0 0x04030201 ≡ record { answer = value 0; state = 1 ∷ 2 ∷ 3 ∷ 4 ∷ 0 ∷ 0 ∷ 0 ∷ 0 ∷ [] })
-      × (hearing (replicate 8 0) 1 0x04030201 ≡ record { answer = value 1; state = 0 ∷ 0 ∷ 0 ∷ 0 ∷ 1 ∷ 2 ∷ 3 ∷ 4 ∷ [] })
-      × (hearing (replicate 8 0) 2 0 ≡ record { answer = refused 9; state = replicate 8 0 })
+  pub times : (renew (replicate 9 9) 0x04030201 ≡ record { answer = value 0; state = 1 ∷ 2 ∷ 3 ∷ 4 ∷ 1 ∷ 2 ∷ 3 ∷ 4 ∷ 1 ∷ [] })
+      × (hearing (bytes (replicate 8 0)) 0 0x04030201 ≡ record { answer = value 0; state = bytes (1 ∷ 2 ∷ 3 ∷ 4 ∷ 0 ∷ 0 ∷ 0 ∷ 0 ∷ []) })
+      × (hearing (bytes (replicate 8 0)) 1 0x04030201 ≡ record { answer = value 1; state = bytes (0 ∷ 0 ∷ 0 ∷ 0 ∷ 1 ∷ 2 ∷ 3 ∷ 4 ∷ []) })
+      × (hearing (bytes (replicate 8 0)) 2 0 ≡ record { answer = refused 9; state = bytes (replicate 8 0) })
   -- a check answers 0 for none, 1 for A, 2 for B, 3 for both; 16,000 is 62 times 256 and 128
-  pub checks : (checking (replicate 8 0) 15999 ≡ record { answer = value 0; state = replicate 8 0 })
-      × (checking (0 ∷ 0 ∷ 0 ∷ 0 ∷ 1 ∷ 0 ∷ 0 ∷ 0 ∷ []) 16000 ≡ record { answer = value 1; state = 128 ∷ 62 ∷ 0 ∷ 0 ∷ 1 ∷ 0 ∷ 0 ∷ 0 ∷ [] })
-      × (checking (1 ∷ 0 ∷ 0 ∷ 0 ∷ 0 ∷ 0 ∷ 0 ∷ 0 ∷ []) 16000 ≡ record { answer = value 2; state = 1 ∷ 0 ∷ 0 ∷ 0 ∷ 128 ∷ 62 ∷ 0 ∷ 0 ∷ [] })
-      × (checking (replicate 8 0) 16000 ≡ record { answer = value 3; state = 128 ∷ 62 ∷ 0 ∷ 0 ∷ 128 ∷ 62 ∷ 0 ∷ 0 ∷ [] })
+  pub checks : (checking (bytes (replicate 8 0)) 15999 ≡ record { answer = value 0; state = bytes (replicate 8 0) })
+      × (checking (bytes (0 ∷ 0 ∷ 0 ∷ 0 ∷ 1 ∷ 0 ∷ 0 ∷ 0 ∷ [])) 16000
+      ≡ record { answer = value 1; state = bytes (128 ∷ 62 ∷ 0 ∷ 0 ∷ 1 ∷ 0 ∷ 0 ∷ 0 ∷ []) })
+      × (checking (bytes (1 ∷ 0 ∷ 0 ∷ 0 ∷ 0 ∷ 0 ∷ 0 ∷ 0 ∷ [])) 16000
+      ≡ record { answer = value 2; state = bytes (1 ∷ 0 ∷ 0 ∷ 0 ∷ 128 ∷ 62 ∷ 0 ∷ 0 ∷ []) })
+      × (checking (bytes (replicate 8 0)) 16000 ≡ record { answer = value 3; state = bytes (128 ∷ 62 ∷ 0 ∷ 0 ∷ 128 ∷ 62 ∷ 0 ∷ 0 ∷ []) })

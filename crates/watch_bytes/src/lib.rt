@@ -16,6 +16,7 @@ pub struct State;
 
 impl State {
     pub const SIZE: usize = 9;
+
     pub const LAYOUT: u8 = 1;
 }
 
@@ -36,8 +37,7 @@ fn put(state: &mut [u8], watch: Watch)
     let a = word_bytes(watch.a);
     let b = word_bytes(watch.b);
     copy_in(state, 0, &a);
-    copy_in(state, 4, &b);
-    state[8] = State::LAYOUT;
+    copy_in(state, 4, &[b[0], b[1], b[2], b[3], State::LAYOUT]);
 }
 
 fn load(state: &[u8]) -> Watch

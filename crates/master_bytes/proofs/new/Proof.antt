@@ -8,7 +8,7 @@ use Rattle.master_bytes.proofs.new.Tie as tie
 
 returns : tie.Need-returns
 unfolding renew
-returns c = rw (ne-eqb (length (c .before .before .args .state .now)) 67 (c .if1 .taken))
+returns c = rw (ne-eqb (length (c .before .before .args .state .now)) 68 (c .if1 .taken))
 
 new-requires : tie.Need-new-requires
 new-requires c κs = search needs
@@ -24,7 +24,7 @@ unfolding renew
 returns-2 c =
     let p = c .before .before in
     let b = p .before .before .before in
-    rw (p .put .ensures, p .before .new .ensures, eq-eqb (length (b .before .before .args .state .now)) 67 (b .if1 .left))
+    rw (p .put .ensures, p .before .new .ensures, eq-eqb (length (b .before .before .args .state .now)) 68 (b .if1 .left))
 
 pub new-spec : {M : Type 1} → statement M
 new-spec = tie.close (tie.spec returns new-requires put-requires same-length returns-2)

@@ -3,8 +3,8 @@ use borrow.Author.Needs.{needs}
 use mathlib.Core.Path.{sym}
 use native.Mathlib.Omega.{arith}
 use Rattle.copying.proofs.Filling.{filled}
-use Rattle.master_bytes.specs.States.{activityBytes, stateBytes}
-use Rattle.master_bytes.proofs.Laws.{three}
+use Rattle.master_bytes.specs.States.{lastBytes, stateBytes}
+use Rattle.master_bytes.proofs.Laws.{four}
 use Rattle.master_bytes.proofs.put.Statement.{statement}
 use Rattle.master_bytes.proofs.put.Tie as tie
 
@@ -14,8 +14,8 @@ slice-aggregate-copy-in c = search needs
 copy-in-requires : tie.Need-copy-in-requires
 copy-in-requires c κs = search needs
 
-activity-bytes-requires : tie.Need-activity-bytes-requires
-activity-bytes-requires c κs = search needs
+last-bytes-requires : tie.Need-last-bytes-requires
+last-bytes-requires c κs = search needs
 
 slice-aggregate-copy-in-2 : tie.Need-slice-aggregate-copy-in-2
 slice-aggregate-copy-in-2 c = search needs
@@ -33,8 +33,8 @@ returns c =
     let b = a .before .before .before in
     let g = b .before .before .before .before .before in
     let m = g .args .master in
-    rw (c .before .before .copy-in2 .ensures .1, a .activity-bytes .ensures, b .copy-in .ensures .1)
-    (filled (g .args .state .now) (m .chosen) (activityBytes (m .activity)) 64 (sym (slice-aggregate-copy-in (b .before))) (omega (arith, three (m .activity), g .pre)))
+    rw (c .before .before .copy-in2 .ensures .1, a .last-bytes .ensures, b .copy-in .ensures .1)
+    (filled (g .args .state .now) (m .chosen) (lastBytes (m .activity)) 64 (sym (slice-aggregate-copy-in (b .before))) (omega (arith, four (m .activity), g .pre)))
 
 pub put-spec : {M : Type 1} → statement M
 put-spec =
@@ -42,7 +42,7 @@ put-spec =
     (tie.spec
     slice-aggregate-copy-in
     copy-in-requires
-    activity-bytes-requires
+    last-bytes-requires
     slice-aggregate-copy-in-2
     copy-in-requires-2
     same-length
