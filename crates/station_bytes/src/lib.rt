@@ -40,6 +40,7 @@ pub struct State;
 
 impl State {
     pub const SIZE: usize = 130;
+
     pub const LAYOUT: u8 = 1;
 }
 
