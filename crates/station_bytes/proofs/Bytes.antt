@@ -22,9 +22,9 @@ use Rattle.station.specs.declared.Station.{Station}
 use Rattle.station.specs.Stations.{stationOf, withSlots}
 use Rattle.words.specs.Words.{wordBytes, wordAt}
 use Rattle.words.proofs.Laws.{written-at, four}
-use Rattle.station_bytes.specs.States.{formatNumber, formatIn, formatAt, progressNumber, progressFrom, keyIn, firstOf, secondOf, slotBytes, slotsBytes, stateBytes, slotIn, slotsFrom, slotWritten, slotsWritten, stationIn, isState}
+use Rattle.station_bytes.specs.States.{layout, formatNumber, formatIn, formatAt, progressNumber, progressFrom, keyIn, firstOf, secondOf, slotBytes, slotsBytes, stateBytes, slotIn, slotsFrom, slotWritten, slotsWritten, stationIn, isState}
 use Rattle.station_bytes.specs.Parts.{recordsGood, recordCodes, Tested, IsThere}
-use Rattle.station_bytes.proofs.Scans.{codes-length, not-tested, not-good, its-codes, good-tested}
+use Rattle.station_bytes.proofs.Scans.{codes-length, other-end, not-tested, not-good, its-codes, good-tested}
 
 -- ---- a number that stands where it is to be written
 
@@ -98,12 +98,13 @@ module _ (state : List ℕ) (bytes : (k : ℕ) → getD state k 0 < 256) where
   unfolding isState
   same-bytes e =
       let t = each _ e in
-      let n : length state ≡ 129 = eqb-true (length state) 129 (t .0) in
-      let slots = slots-bytes (formatAt state) 16 0 (omega arith) (t .1 .1 .0) in
-      let last = format-back (leb-true (getD state 128 0) 1 (t .1 .0)) in
-      let parts = take-add 128 1 state in
+      let n : length state ≡ 130 = eqb-true (length state) 130 (t .0) in
+      let slots = slots-bytes (formatAt state) 16 0 (omega arith) (t .1 .1 .1 .0) in
+      let format = format-back (leb-true (getD state 128 0) 1 (t .1 .0)) in
+      let number : getD state 129 0 ≡ layout = eqb-true (getD state 129 0) layout (t .1 .1 .0) in
       let end : drop 128 state ≡ getD state 128 0 ∷ drop 129 state = drop-cons state 128 0 (omega arith) in
-      let none : drop 129 state ≡ [] = drop-of-length-le state {i = 129} (omega arith) in
+      let last : drop 129 state ≡ getD state 129 0 ∷ drop 130 state = drop-cons state 129 0 (omega arith) in
+      let none : drop 130 state ≡ [] = drop-of-length-le state {i = 130} (omega arith) in
       let whole : take 128 state ++ drop 128 state ≡ state = sym (split state 128) in
       cc
     where
@@ -208,7 +209,7 @@ module _ (state codes : List ℕ) where
   tested-none e l =
       record { told = sym (not-tested state e); same = λ t. false-not (sym e ∙ t); theirs = λ t. false-not t; sixteen = l }
 
-  module _ (bytes : (k : ℕ) → getD state k 0 < 256) (n : length state ≡ 129) (f : getD state 128 0 ≤ 1) (format : Format) (ef : format ≡ formatAt state) (ec : codes ≡ recordCodes state 0 16) where
+  module _ (bytes : (k : ℕ) → getD state k 0 < 256) (n : length state ≡ 130) (f : other-end state ≡ false) (format : Format) (ef : format ≡ formatAt state) (ec : codes ≡ recordCodes state 0 16) where
     size : length codes ≡ 16
     size = ap length ec ∙ codes-length state 0 16
 

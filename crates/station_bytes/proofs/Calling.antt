@@ -39,7 +39,7 @@ use Rattle.station.specs.Receive.{After, keyOf, progressOf, afterTurn}
 use Rattle.station.specs.Parts.{refusedAs, Steps}
 use Rattle.station.proofs.Turning.{Leaves, names-none, unmoved, turnOf, at-store, at-field, at-image, at-none, at-slot}
 use Rattle.words.specs.Words.{wordBytes, wordAt}
-use Rattle.station_bytes.specs.States.{formatNumber, formatAt, progressNumber, progressFrom, keyIn, firstOf, slotIn, slotsFrom, slotsBytes, stateBytes, stationIn, isState}
+use Rattle.station_bytes.specs.States.{endBytes, formatAt, progressNumber, progressFrom, keyIn, firstOf, slotIn, slotsFrom, slotsBytes, stateBytes, stationIn, isState}
 use Rattle.station_bytes.specs.Calls.{BytesAfter, inBytes, receiveIn, bytesAfter}
 use Rattle.station_bytes.specs.Parts.{Tested, StepsIn}
 use Rattle.station_bytes.proofs.Scans.{slots-length}
@@ -67,9 +67,9 @@ unsound state codes r t e i = go (isState state) (soundStation (stationIn state)
     go true b i e = e
     go false b i e = absurd (false≢true i)
 
-pub state-size : (state codes : List ℕ) → Sound state codes → length state ≡ 129
+pub state-size : (state codes : List ℕ) → Sound state codes → length state ≡ 130
 unfolding isState
-state-size state codes s = eqb-true (length state) 129 (each _ (s .is) .0)
+state-size state codes s = eqb-true (length state) 130 (each _ (s .is) .0)
 
 -- ---- an open slot
 
@@ -191,6 +191,6 @@ module _ (state codes : List ℕ) (s : Sound state codes) where
                 } in
                 let bytes = t .state′
                 ∙ ap (λ (l : List ℕ). copied l (8 * i + 4) (wordBytes (progressNumber (step format before (area store i) frame .progress)))) (sym (s .same))
-                ∙ put-second slots i (omega (arith, sixteen, h)) (formatNumber format ∷ []) after its-first in
+                ∙ put-second slots i (omega (arith, sixteen, h)) (endBytes format) after its-first in
                 ap (λ (l : List ℕ). record { answer = meaning answer; state = l; store = lastStore }) bytes
                 ∙ as-station _ (at-slot format slots store bus image (s .ok) w b judged e i p h turn lastStore steps)

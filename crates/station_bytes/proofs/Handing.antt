@@ -34,7 +34,7 @@ use Rattle.stream.specs.Step.{held}
 use Rattle.station.specs.Read.{isDone, reading, lengthOf}
 use Rattle.station.proofs.Handing as station
 use Rattle.words.specs.Words.{wordBytes, wordAt}
-use Rattle.station_bytes.specs.States.{formatNumber, formatAt, progressFrom, keyIn, firstOf, secondOf, slotsFrom, stateBytes, stationIn, isState}
+use Rattle.station_bytes.specs.States.{endBytes, formatAt, progressFrom, keyIn, firstOf, secondOf, slotsFrom, stateBytes, stationIn, isState}
 use Rattle.station_bytes.specs.Calls.{StateAfter, asState, notState, openIn, closeIn, readIn, stateAfter}
 use Rattle.station_bytes.specs.Parts.{Tested}
 use Rattle.station_bytes.proofs.Bytes.{put-both}
@@ -116,7 +116,7 @@ module _ (state codes : List ℕ) (s : Sound state codes) where
   put-slot : (i : ℕ) → i < 16 → (x : Slot) (a b : ℕ) → a ≡ firstOf (x .occupancy) → b ≡ secondOf (x .occupancy)
       → copied (copied state (8 * i) (wordBytes a)) (8 * i + 4) (wordBytes b) ≡ stateBytes (withSlots (stationIn state) (set slots i x))
   put-slot i h x a b ea eb =
-      let over = put-both slots i (omega (arith, sixteen state codes s, h)) (formatNumber format ∷ []) x in
+      let over = put-both slots i (omega (arith, sixteen state codes s, h)) (endBytes format) x in
       let same = s .same in
       cc
 

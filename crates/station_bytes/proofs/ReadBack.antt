@@ -34,7 +34,7 @@ use Rattle.stream.specs.Step.{held}
 use Rattle.station.specs.Read.{reading}
 use Rattle.words.specs.Words.{wordBytes, wordAt}
 use Rattle.words.proofs.Laws.{read-after, four}
-use Rattle.station_bytes.specs.States.{formatNumber, formatIn, formatAt, progressNumber, progressFrom, keyIn, firstOf, secondOf, slotBytes, slotsBytes, stateBytes, slotIn, slotsFrom, slotWritten, slotsWritten, stationIn, isState}
+use Rattle.station_bytes.specs.States.{layout, formatNumber, endBytes, formatIn, formatAt, progressNumber, progressFrom, keyIn, firstOf, secondOf, slotBytes, slotsBytes, stateBytes, slotIn, slotsFrom, slotWritten, slotsWritten, stationIn, isState}
 use Rattle.station_bytes.specs.Calls.{readIn}
 use Rattle.station_bytes.specs.Parts.{Tested}
 use Rattle.station_bytes.specs.Claims.{ReadBack, WrittenBack, NotWritten}
@@ -220,17 +220,19 @@ read-back station s =
     let state = stateBytes station in
     let sixteen : length slots ≡ 16 = eqb-true (length slots) 16 (t .0) in
     let all-size : length (slotsBytes slots) ≡ 128 = slots-size slots ∙ omega arith in
-    let size : length state ≡ 129 = length-append (slotsBytes slots) (formatNumber format ∷ []) ∙ omega arith in
-    let last : getD state 128 0 ≡ formatNumber format =
-    let end : 128 ≡ length (slotsBytes slots) + 0 = omega arith in
-    ap (λ (n : ℕ). getD state n 0) end ∙ getD-append-add (slotsBytes slots) (formatNumber format ∷ []) 0 0 in
-    let same : formatAt state ≡ format = ap formatIn last ∙ format-read format in
-    let r = records-back format state (formatNumber format ∷ []) slots 0 [] refl refl (t .1 .0) in
+    let size : length state ≡ 130 = length-append (slotsBytes slots) (endBytes format) ∙ omega arith in
+    let behind : (k : ℕ) → getD state (128 + k) 0 ≡ getD (endBytes format) k 0 =
+    λ k. ap (λ (n : ℕ). getD state (n + k) 0) (sym all-size) ∙ getD-append-add (slotsBytes slots) (endBytes format) k 0 in
+    let same : formatAt state ≡ format = ap formatIn (behind 0) ∙ format-read format in
+    let r = records-back format state (endBytes format) slots 0 [] refl refl (t .1 .0) in
     let slots-read : slotsFrom format state 0 16 ≡ slots = ap (slotsFrom format state 0) (sym sixteen) ∙ r .slots′ in
     let slots-are : slotsWritten format state 0 16 ≡ true = ap (slotsWritten format state 0) (sym sixteen) ∙ r .written in (
       from-each _ (
-        eq-eqb (length state) 129 size,
-        (ap (λ (n : ℕ). leb n 1) last ∙ format-small format, (ap (λ (f : Format). slotsWritten f state 0 16) same ∙ slots-are, tt)),
+        eq-eqb (length state) 130 size,
+        (
+          ap (λ (n : ℕ). leb n 1) (behind 0) ∙ format-small format,
+          (eq-eqb (getD state 129 0) layout (behind 1), (ap (λ (f : Format). slotsWritten f state 0 16) same ∙ slots-are, tt)),
+        ),
       ),
       ap (λ (f : Format). stationOf f (slotsFrom f state 0 16)) same ∙ ap (stationOf format) slots-read,
     )

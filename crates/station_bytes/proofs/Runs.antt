@@ -66,7 +66,7 @@ stay-sound =
           subst (λ (r : StateAfter). AreSound (r .state)) (sym (as-first station s .opens key)) (are-sound (opening station key .station) (stays .opens station s key));
       closes = λ station s i.
           subst (λ (r : StateAfter). AreSound (r .state)) (sym (as-first station s .closes i)) (are-sound (closing station i .station) (stays .closes station s i));
-      new = λ state n format. rw (eq-eqb (length state) 129 n) (are-sound (newStation format) (met .new format));
+      new = λ state n format. rw (eq-eqb (length state) 130 n) (are-sound (newStation format) (met .new format));
     }
 
 -- ---- calls one after the other
@@ -176,7 +176,7 @@ module _ (state : List ℕ) where
 
   refused-renews : (format : Format) (n : ℕ) → renewed state format .answer ≡ refused n → renewed state format .state ≡ state
   unfolding renewed
-  refused-renews format n = go (eqb (length state) 129)
+  refused-renews format n = go (eqb (length state) 130)
     where
       go : (b : Bool) → cond b (record { answer = value 0; state = stateBytes (newStation format) }) (notState state) .answer ≡ refused n
           → cond b (record { answer = value 0; state = stateBytes (newStation format) }) (notState state) .state ≡ state

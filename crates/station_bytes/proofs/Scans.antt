@@ -2,12 +2,12 @@
 use Prim.Native.Nat.{ℕ, zero, suc, _+_, _-_, _*_, _<_, _≤_}
 use native.Mathlib.Omega.{arith}
 use mathlib.Core.Path.{_≡_, refl, _∙_, sym, ap}
-use mathlib.Core.Bool.{Bool, true, false, cond, _&&_, _||_, not}
+use mathlib.Core.Bool.{Bool, true, false, cond, _&&_, _||_, not, false≢true}
 use mathlib.Core.List.{List, [], _∷_}
-use lib.Dec.{leb, eqb}
+use lib.Dec.{leb, ltb, eqb}
 use lib.ListN.{length, getD, set}
 use lib.Seq.{paste}
-use borrow.Author.Tests.{eq-eqb, ne-eqb, le-leb, lt-leb}
+use borrow.Author.Tests.{eq-eqb, ne-eqb, le-leb, lt-leb, ltb-true, ltb-false}
 use Rattle.format.specs.declared.Format.{Format}
 use Rattle.format.specs.Tests.{allTrue}
 use Rattle.format.proofs.Tests.{each}
@@ -20,7 +20,7 @@ use Rattle.slot.proofs.CodeLaws.{sound-codes}
 use Rattle.slot.proofs.Rows.{row-next, row-full}
 use Rattle.station.specs.Stations.{soundStation}
 use Rattle.words.specs.Words.{wordAt}
-use Rattle.station_bytes.specs.States.{formatAt, slotIn, slotsFrom, slotWritten, slotsWritten, stationIn, isState}
+use Rattle.station_bytes.specs.States.{layout, formatAt, slotIn, slotsFrom, slotWritten, slotsWritten, stationIn, isState}
 use Rattle.station_bytes.specs.Parts.{keyFits, progressFits, recordGood, recordsGood, recordCode, recordCodes}
 use Rattle.station_bytes.proofs.Records.{tidy-open, record-good, record-code}
 
@@ -108,6 +108,13 @@ and-both : (a b : Bool) → (a && b) ≡ true → (a ≡ true) × (b ≡ true)
 and-both true b e = (refl, e)
 and-both false b e = let z : false ≡ true = e in (z, cc)
 
+at-most : (m n : ℕ) → leb m n ≡ not (ltb n m)
+at-most m n = go (ltb n m) refl
+  where
+    go : (b : Bool) → ltb n m ≡ b → leb m n ≡ not b
+    go true e = lt-leb m n (ltb-true n m e)
+    go false e = le-leb m n (ltb-false n m e)
+
 module _ (state : List ℕ) where
   abbrev slots : List Slot
   slots = slotsFrom (formatAt state) state 0 16
@@ -119,25 +126,36 @@ module _ (state : List ℕ) where
   unfolding allTrue
   none-after b e = rw e
 
-  pub not-length : length state ≢ 129 → isState state ≡ false
+  pub not-length : length state ≢ 130 → isState state ≡ false
   unfolding isState allTrue
-  not-length h = rw (ne-eqb (length state) 129 h)
+  not-length h = rw (ne-eqb (length state) 130 h)
 
-  pub not-format : 1 < getD state 128 0 → isState state ≡ false
+  -- the two bytes behind the slots are no format and this layout
+  abbrev pub other-end : Bool
+  other-end = ltb 1 (getD state 128 0) || not (eqb (getD state 129 0) layout)
+
+  pub not-end : other-end ≡ true → isState state ≡ false
   unfolding isState allTrue
-  not-format h = rw (lt-leb (getD state 128 0) 1 h) (and-false (eqb (length state) 129))
+  not-end e = rw at-most (go (eqb (length state) 130) (ltb 1 (getD state 128 0)) (eqb (getD state 129 0) layout) e)
     where
-      and-false : (b : Bool) → ((b && false) && slotsWritten (formatAt state) state 0 16) ≡ false
-      and-false true = refl
-      and-false false = refl
+      go : (n f l : Bool) → (f || not l) ≡ true → (((n && not f) && l) && slotsWritten (formatAt state) state 0 16) ≡ false
+      go false f l e = refl
+      go true true l e = refl
+      go true false true e = absurd (false≢true e)
+      go true false false e = refl
 
   pub not-tested : isState state ≡ false → tested ≡ false
   not-tested e = none-after (soundStation (stationIn state)) e
 
-  module _ (n : length state ≡ 129) (f : getD state 128 0 ≤ 1) where
+  module _ (n : length state ≡ 130) (f : other-end ≡ false) where
     is-written : isState state ≡ slotsWritten (formatAt state) state 0 16
     unfolding isState allTrue
-    is-written = rw (eq-eqb (length state) 129 n, le-leb (getD state 128 0) 1 f)
+    is-written = rw (eq-eqb (length state) 130 n, at-most) (go (ltb 1 (getD state 128 0)) (eqb (getD state 129 0) layout) f)
+      where
+        go : (f l : Bool) → (f || not l) ≡ false → ((not f && l) && slotsWritten (formatAt state) state 0 16) ≡ slotsWritten (formatAt state) state 0 16
+        go true l e = absurd (false≢true (sym e))
+        go false true e = refl
+        go false false e = absurd (false≢true (sym e))
 
     pub not-good : recordsGood (formatAt state) state 0 16 ≡ false → tested ≡ false
     unfolding allTrue sound

@@ -1,4 +1,4 @@
--- The 129 bytes of a station, once more as literals: what a state that was written yesterday is read by tomorrow, so that a layout changed
+-- The 130 bytes of a station, once more as literals: what a state that was written yesterday is read by tomorrow, so that a layout changed
 -- alike in the definitions and in the code breaks the claim; and which bytes are no state. proofs/Bounds.antt proves it.
 use Prim.Native.Nat.{ℕ, _*_}
 use mathlib.Core.Path.{_≡_}
@@ -24,7 +24,7 @@ pub data Bound : Type 0 where
   writes : Format → List Slot → List ℕ → Bound
   -- whether bytes are a state's
   states : List ℕ → Bool → Bound
-  -- so many bytes made a new station's: the answer, and the format's byte
+  -- so many bytes made a new station's: the answer, and the bytes
   renews : (size : ℕ) → Format → Result ℕ → List ℕ → Bound
 
 -- an extended key of bus B with five different fields, and a standard one
@@ -38,15 +38,15 @@ unit progress = openSlot (keyWith 1 (fields.Standard 2 22 1)) progress
 abbrev closed : ℕ → List ℕ
 closed n = replicate (8 * n) 0
 
--- fifteen closed slots behind a record, and the format
+-- fifteen closed slots behind a record, the format and the layout
 abbrev first : (bytes : List ℕ) (format : ℕ) → List ℕ
-first bytes format = bytes ++ (closed 15 ++ (format ∷ []))
+first bytes format = bytes ++ (closed 15 ++ (format ∷ 1 ∷ []))
 
 abbrev pub table : List Bound
 table =
-    -- new ones: every slot closed, then the format, 0 extended and 1 standard
-    writes Extended (replicate 16 closedSlot) (closed 16 ++ (0 ∷ []))
-    ∷ writes Standard (replicate 16 closedSlot) (closed 16 ++ (1 ∷ []))
+    -- new ones: every slot closed, then the format, 0 extended and 1 standard, then the layout
+    writes Extended (replicate 16 closedSlot) (closed 16 ++ (0 ∷ 1 ∷ []))
+    ∷ writes Standard (replicate 16 closedSlot) (closed 16 ++ (1 ∷ 1 ∷ []))
     -- extended: priority, function × 4, bus × 128; source; group; destination. Then h, and 1 idle, 2 collecting, 3 done
     ∷ writes Extended (node Idle ∷ replicate 15 closedSlot) (first (0x8D ∷ 5 ∷ 2 ∷ 6 ∷ 0 ∷ 0 ∷ 1 ∷ 0 ∷ []) 0)
     ∷ writes Extended (node (Collecting 520) ∷ replicate 15 closedSlot) (first (0x8D ∷ 5 ∷ 2 ∷ 6 ∷ 0x08 ∷ 0x02 ∷ 2 ∷ 0 ∷ []) 0)
@@ -55,14 +55,19 @@ table =
     ∷ writes Standard (unit Idle ∷ replicate 15 closedSlot) (first (0x82 ∷ 0x56 ∷ 1 ∷ 0 ∷ 0 ∷ 0 ∷ 1 ∷ 0 ∷ []) 1)
     -- slot i has the eight bytes from 8 × i
     ∷ writes Extended (closedSlot ∷ node Idle ∷ replicate 14 closedSlot)
-    (closed 1 ++ ((0x8D ∷ 5 ∷ 2 ∷ 6 ∷ 0 ∷ 0 ∷ 1 ∷ 0 ∷ []) ++ (closed 14 ++ (0 ∷ []))))
-    ∷ writes Extended (replicate 15 closedSlot ++ (node (Done 0) ∷ [])) (closed 15 ++ (0x8D ∷ 5 ∷ 2 ∷ 6 ∷ 0 ∷ 0 ∷ 3 ∷ 0 ∷ 0 ∷ []))
-    -- 129 bytes, a format 0 or 1
-    ∷ states (closed 16 ++ (0 ∷ [])) true
-    ∷ states (closed 16) false
-    ∷ states (closed 16 ++ (0 ∷ 0 ∷ [])) false
-    ∷ states (closed 16 ++ (1 ∷ [])) true
-    ∷ states (closed 16 ++ (2 ∷ [])) false
+    (closed 1 ++ ((0x8D ∷ 5 ∷ 2 ∷ 6 ∷ 0 ∷ 0 ∷ 1 ∷ 0 ∷ []) ++ (closed 14 ++ (0 ∷ 1 ∷ []))))
+    ∷ writes Extended (replicate 15 closedSlot ++ (node (Done 0) ∷ [])) (closed 15 ++ (0x8D ∷ 5 ∷ 2 ∷ 6 ∷ 0 ∷ 0 ∷ 3 ∷ 0 ∷ 0 ∷ 1 ∷ []))
+    -- 130 bytes, a format 0 or 1
+    ∷ states (closed 16 ++ (0 ∷ 1 ∷ [])) true
+    ∷ states (closed 16 ++ (1 ∷ [])) false
+    ∷ states (closed 16 ++ (0 ∷ 1 ∷ 1 ∷ [])) false
+    ∷ states (closed 16 ++ (1 ∷ 1 ∷ [])) true
+    ∷ states (closed 16 ++ (2 ∷ 1 ∷ [])) false
+    -- another layout is no state, and zeros are none
+    ∷ states (closed 16 ++ (0 ∷ 2 ∷ [])) false
+    ∷ states (closed 16 ++ (0 ∷ 255 ∷ [])) false
+    ∷ states (closed 16 ++ (1 ∷ 0 ∷ [])) false
+    ∷ states (replicate 130 0) false
     -- a closed slot's record is all 0; an idle one holds nothing; the record's seventh byte is 1 to 3, the eighth 0
     ∷ states (first (0x8D ∷ 5 ∷ 2 ∷ 6 ∷ 0 ∷ 0 ∷ 0 ∷ 0 ∷ []) 0) false
     ∷ states (first (0x8D ∷ 5 ∷ 2 ∷ 6 ∷ 1 ∷ 0 ∷ 1 ∷ 0 ∷ []) 0) false
@@ -72,11 +77,11 @@ table =
     -- a standard key has the mark 01 above its address
     ∷ states (first (0x82 ∷ 0x56 ∷ 1 ∷ 0 ∷ 0 ∷ 0 ∷ 1 ∷ 0 ∷ []) 1) true
     ∷ states (first (0x82 ∷ 0x16 ∷ 1 ∷ 0 ∷ 0 ∷ 0 ∷ 1 ∷ 0 ∷ []) 1) false
-    -- any 129 bytes become a new station's
-    ∷ renews 129 Extended (value 0) (closed 16 ++ (0 ∷ []))
-    ∷ renews 129 Standard (value 0) (closed 16 ++ (1 ∷ []))
-    ∷ renews 128 Standard (refused 21) (replicate 128 7)
-    ∷ renews 130 Standard (refused 21) (replicate 130 7)
+    -- any 130 bytes become a new station's
+    ∷ renews 130 Extended (value 0) (closed 16 ++ (0 ∷ 1 ∷ []))
+    ∷ renews 130 Standard (value 0) (closed 16 ++ (1 ∷ 1 ∷ []))
+    ∷ renews 129 Standard (refused 21) (replicate 129 7)
+    ∷ renews 131 Standard (refused 21) (replicate 131 7)
     ∷ []
 
 abbrev pub Holds : Bound → Type 0

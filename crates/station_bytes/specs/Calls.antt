@@ -45,10 +45,10 @@ asState given = record { answer = given .answer; state = stateBytes (given .stat
 abbrev pub notState : List ℕ → StateAfter
 notState state = record { answer = refused (number State); state = state }
 
--- any 129 bytes become a new station's; the answer is 0
+-- any 130 bytes become a new station's; the answer is 0
 unfoldable pub renewed : List ℕ → Format → StateAfter
 renewed state format =
-    cond (eqb (length state) 129) (record { answer = value 0; state = stateBytes (newStation format) }) (notState state)
+    cond (eqb (length state) 130) (record { answer = value 0; state = stateBytes (newStation format) }) (notState state)
 
 unfoldable pub openIn : List ℕ → Key → StateAfter
 openIn state key = cond (isState state) (asState (handing.opening (stationIn state) key)) (notState state)

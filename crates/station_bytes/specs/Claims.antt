@@ -64,13 +64,13 @@ AsFirst = (station : Station) → soundStation station ≡ true → SameAs stati
 abbrev pub AreSound : List ℕ → Type 0
 AreSound state = (isState state ≡ true) × (soundStation (stationIn state) ≡ true)
 
--- such bytes are such bytes again after each call; any 129 bytes are after `new`
+-- such bytes are such bytes again after each call; any 130 bytes are after `new`
 pub record StaySound : Type 0 where
   pub receives : (station : Station) → soundStation station ≡ true → (store : List ℕ) (bus : ℕ) (image : List ℕ)
       → AreSound (receiveIn (stateBytes station) store bus image .state)
   pub opens : (station : Station) → soundStation station ≡ true → (key : Key) → AreSound (openIn (stateBytes station) key .state)
   pub closes : (station : Station) → soundStation station ≡ true → (i : ℕ) → AreSound (closeIn (stateBytes station) i .state)
-  pub new : (state : List ℕ) → length state ≡ 129 → (format : Format) → AreSound (renewed state format .state)
+  pub new : (state : List ℕ) → length state ≡ 130 → (format : Format) → AreSound (renewed state format .state)
 
 -- "Nothing is written and the state handed back is the one handed in, except the idle slot after 7 and 8": the bytes that a call refused by
 -- n leaves, where it concerned slot i

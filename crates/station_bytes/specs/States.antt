@@ -1,7 +1,8 @@
 -- Document 01, "Streams and receiving", first two paragraphs: "A station has one format and 16 slots, all closed when new. A slot is closed
--- or open with a key [..]. An open slot is idle, collecting with h bytes held, or done with h bytes." Here as 129 bytes that a caller
--- lends: a record of eight bytes for each slot, then the format. A record is two numbers of 32 bits, each low byte first: that of
--- the key and that of the progress; both are 0 for a closed slot.
+-- or open with a key [..]. An open slot is idle, collecting with h bytes held, or done with h bytes." Here as 130 bytes that a caller
+-- lends: a record of eight bytes for each slot, then the format, then the number of this layout. A record is two numbers of 32 bits, each
+-- low byte first: that of the key and that of the progress; both are 0 for a closed slot. The document has no layout. Its number is the
+-- last byte, so that bytes in the layout of another release, and zeros, are refused with 21.
 use Prim.Native.Nat.{ℕ, zero, suc, _+_, _*_, _/_, _%_}
 use mathlib.Core.Bool.{Bool, true, cond}
 use mathlib.Core.List.{List, [], _∷_, _++_}
@@ -51,8 +52,16 @@ abbrev pub slotsBytes : List Slot → List ℕ
 slotsBytes [] = []
 slotsBytes (slot ∷ slots) = slotBytes slot ++ slotsBytes slots
 
+-- the number of this layout
+abbrev pub layout : ℕ
+layout = 1
+
+-- the two bytes behind the slots
+abbrev pub endBytes : Format → List ℕ
+endBytes format = formatNumber format ∷ layout ∷ []
+
 abbrev pub stateBytes : Station → List ℕ
-stateBytes station = slotsBytes (station .slots) ++ (formatNumber (station .format) ∷ [])
+stateBytes station = slotsBytes (station .slots) ++ endBytes (station .format)
 
 -- ---- the station read back
 
@@ -98,4 +107,5 @@ slotsWritten format state i (suc n) =
 
 unfoldable pub isState : List ℕ → Bool
 isState state =
-    allTrue (eqb (length state) 129 ∷ leb (getD state 128 0) 1 ∷ slotsWritten (formatAt state) state 0 16 ∷ [])
+    allTrue
+    (eqb (length state) 130 ∷ leb (getD state 128 0) 1 ∷ eqb (getD state 129 0) layout ∷ slotsWritten (formatAt state) state 0 16 ∷ [])

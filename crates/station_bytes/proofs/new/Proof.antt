@@ -7,6 +7,7 @@ use Prim.Native.Nat.{ℕ}
 use lib.ListN.{set, replicate}
 use Rattle.format.specs.Refusals.{value}
 use Rattle.copying.proofs.Filling.{whole}
+use Rattle.station_bytes.specs.States.{layout}
 use Rattle.station_bytes.specs.Calls.{renewed, StateAfter}
 use Rattle.station_bytes.proofs.Places.{new-bytes}
 use borrow.Author.Needs.{needs}
@@ -22,6 +23,9 @@ number-of-requires c κs = search needs
 
 array-write-bytes : tie.Need-array-write-bytes
 array-write-bytes c = search needs
+
+array-write-bytes-2 : tie.Need-array-write-bytes-2
+array-write-bytes-2 c = search needs
 
 slice-aggregate-copy-in : tie.Need-slice-aggregate-copy-in
 slice-aggregate-copy-in c = search needs
@@ -39,7 +43,7 @@ returns-2 c = let a = c .before .before .before .before .before .before .before 
     let wrote =
     c .before .before .copy-in .ensures .1
     ∙ whole (a .args .state .now) _ (omega arith)
-    ∙ ap (set (replicate 129 0) 128) n
+    ∙ ap (λ (b : ℕ). set (set (replicate 130 0) 128 b) 129 layout) n
     ∙ new-bytes (a .args .format) in
     rw (eq-eqb _ _ (c .before .before .before .before .before .before .if1 .left))
     (ap (λ (l : List ℕ). record { answer = value 0; state = l }) wrote)
@@ -51,6 +55,7 @@ new-spec =
     returns
     number-of-requires
     array-write-bytes
+    array-write-bytes-2
     slice-aggregate-copy-in
     copy-in-requires
     same-length
