@@ -52,6 +52,15 @@ pub stop-then : {A : Type 0} (name : Refusal) (rest : List Check) (r : Result A)
 unfolding checkedThen
 stop-then name rest r e = rw e
 
+pub pass-then : {A : Type 0} (name : Refusal) (rest : List Check) (r : Result A) {ok : Bool} {s : Result A} → ok ≡ true
+    → s ≡ checkedThen rest r → s ≡ checkedThen (check name ok ∷ rest) r
+unfolding checkedThen
+pass-then name rest r e h = rw e h
+
+pub none-left-then : {A : Type 0} (r : Result A) → r ≡ checkedThen [] r
+unfolding checkedThen
+none-left-then r = refl
+
 pub passed-then : {A : Type 0} (checks : List Check) (r : Result A) (y : A) → checkedThen checks r ≡ value y → Passed checks × (r ≡ value y)
 unfolding checkedThen
 passed-then [] r y e = (tt, e)

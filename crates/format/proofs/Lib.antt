@@ -1,5 +1,6 @@
 pub mod Tests
 pub mod Checks
+pub mod Outputs
 pub mod Limits
 pub mod Numbers
 pub mod Tables

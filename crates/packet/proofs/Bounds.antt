@@ -6,11 +6,12 @@ use lib.ListN.{replicate}
 use borrow.Author.Tests.{eqb-true}
 use Rattle.format.specs.Tests.{allAfter, allTrue}
 use Rattle.format.specs.Formats.{inRange}
-use Rattle.format.specs.Refusals.{value, guarded}
+use Rattle.format.specs.Refusals.{value, guarded, checkedThen}
+use Rattle.format.specs.Outputs.{fitting, answer}
 use Rattle.format.proofs.Tables.{by-test, sameNumbers, same-numbers, sameResult, same-result}
 use Rattle.frame.specs.Image.{headerBytes, imageOf}
 use Rattle.packet.specs.Split.{countOf, pieceFlag, pieceBytes, piece}
-use Rattle.packet.specs.Send.{pieceCount, send, answer}
+use Rattle.packet.specs.Send.{pieceCount, send}
 use Rattle.packet.specs.Bounds.{Bound, counts, answers, writes, table, Holds, SendingBounds}
 
 abbrev test : Bound → Bool
@@ -24,5 +25,5 @@ says (answers fs size k room said) e = same-result eqb eqb-true _ _ e
 says (writes fs packet k image) e = same-result sameNumbers same-numbers _ _ e
 
 pub sending-bounds : SendingBounds
-unfolding SendingBounds allAfter allTrue inRange guarded headerBytes imageOf countOf pieceFlag pieceBytes piece pieceCount send
+unfolding SendingBounds allAfter allTrue inRange guarded headerBytes imageOf countOf pieceFlag pieceBytes piece pieceCount send checkedThen fitting
 sending-bounds = by-test Holds test says table refl

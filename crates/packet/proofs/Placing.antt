@@ -1,41 +1,19 @@
--- A frame's image, written or refused with ROOM.
+-- A frame's image: its size, and how the code puts it together.
 use Prim.Native.Nat.{ℕ, suc, _+_, _-_, _≤_, _<_}
-use mathlib.Core.Path.{_≡_, refl, sym, ap}
+use mathlib.Core.Path.{_≡_, refl, ap}
 use mathlib.Core.Bool.{Bool, true, false, cond}
 use mathlib.Core.List.{List, [], _∷_, _++_}
 use native.Mathlib.Omega.{arith}
 use lib.Dec.{leb}
 use lib.ListN.{length, take}
-use borrow.Author.Tests.{le-leb, lt-leb}
 use Rattle.format.specs.declared.Fields.{Fields}
 use Rattle.format.specs.declared.Fields.the-variants.{Extended, Standard}
 use Rattle.format.specs.declared.Flag.{Flag}
-use Rattle.format.specs.declared.Outcome.the-variants.{Value, Refused}
-use Rattle.format.specs.declared.Refusal.the-variants.{Room}
 use Rattle.format.specs.Formats.{headerSize, numberRange, numbered, packetStart, formatOf, inRange}
-use Rattle.format.specs.Refusals.{value, refused}
 use Rattle.format.proofs.Tests.{Each, each}
-use Rattle.format.proofs.Checks.{stop, pass, none-left}
-use Rattle.frame.specs.Judge.{Frame}
 use Rattle.frame.specs.Image.{headerBytes, imageOf}
 use Rattle.packet.specs.Split.{frameWith}
-use Rattle.packet.specs.Send.{over}
-use Rattle.packet.specs.Parts.{filler, placed, Placed}
-
-module _ (frame : Frame) (output : List ℕ) (size : ℕ) (e : length (imageOf frame) ≡ size) where
-  pub no-room : length output < size → Placed frame output (Refused Room) output
-  unfolding placed
-  no-room h =
-      let m : length output < length (imageOf frame) = rw e h in
-      let p : placed frame (length output) ≡ refused 12 = sym (stop Room _ _ (lt-leb _ _ m)) in
-      record { answers = rw p; leaves = rw p }
-
-  pub has-room : size ≤ length output → (last : List ℕ) → last ≡ over (imageOf frame) output → Placed frame output (Value size) last
-  unfolding placed
-  has-room h last w =
-      let m : length (imageOf frame) ≤ length output = rw e h in
-      let p : placed frame (length output) ≡ value (imageOf frame) = sym (pass Room _ _ (le-leb _ _ m) (none-left _)) in
-      record { answers = rw (p, e); leaves = rw p w }
+use Rattle.packet.specs.Parts.{filler}
 
 -- what fields in range say of each field, and of the number
 pub extended-range : (fields : Fields) (p q g d f n : ℕ) → fields ≡ Extended p q g d f → inRange fields ≡ true → n < numberRange (formatOf fields)

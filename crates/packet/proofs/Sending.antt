@@ -1,6 +1,6 @@
 -- The checks of sending, one after the other, for the code that makes them.
 use Prim.Native.Nat.{ℕ, _%_, _≤_, _<_}
-use mathlib.Core.Path.{_≡_, refl, sym}
+use mathlib.Core.Path.{_≡_, refl, ap, subst, _∙_}
 use mathlib.Core.Bool.{Bool, true, false}
 use mathlib.Core.List.{List}
 use native.Mathlib.Nat.{mod-lt}
@@ -16,12 +16,15 @@ use Rattle.format.specs.declared.Outcome.the-variants.{Refused}
 use Rattle.format.specs.declared.Refusal.{Refusal}
 use Rattle.format.specs.declared.Refusal.the-variants.{Field, Size, Index}
 use Rattle.format.specs.Formats.{packetLimit, pieceSize, numberRange, formatOf, inRange}
-use Rattle.format.specs.Refusals.{refused, number, meaning}
-use Rattle.format.proofs.Checks.{stop, pass}
+use Rattle.format.specs.Refusals.{Result, refused, number, meaning}
+use Rattle.format.specs.Outputs.{fitting, Writes}
+use Rattle.format.proofs.Checks.{stop-then, pass-then, none-left-then}
+use Rattle.format.proofs.Outputs.{not-written}
 use Rattle.format.proofs.Limits.{some-bytes, eight-bytes, most-bytes, some-numbers}
+use Rattle.frame.specs.Judge.{Frame}
+use Rattle.frame.specs.Image.{imageOf}
 use Rattle.packet.specs.Split.{countOf, pieceFlag, pieceBytes, frameWith, piece}
-use Rattle.packet.specs.Send.{send, answer, outputAfter}
-use Rattle.packet.specs.Parts.{placed, Placed}
+use Rattle.packet.specs.Send.{send}
 use Rattle.packet.proofs.Counts.{bytes-single, bytes-several}
 
 -- a piece carries eight bytes at most
@@ -34,8 +37,7 @@ bytes-small z packet k small = go (leb (length packet) 8) refl
 
 -- the answer and the output of sending, as the contract has them
 abbrev Sent : Fields → List ℕ → ℕ → List ℕ → Outcome → List ℕ → Type 0
-Sent fields packet k output r last =
-    (meaning r ≡ answer (send fields packet k (length output))) × (last ≡ outputAfter (send fields packet k (length output)) output)
+Sent fields packet k output r last = Writes (send fields packet k (length output)) output (meaning r) last
 
 -- what the code knows once the packet fits its format: z is the piece size
 pub record Sized (fields : Fields) (packet : List ℕ) (format : Format) (z : ℕ) : Type 0 where
@@ -59,18 +61,18 @@ sizes {format} s =
 
 module _ (fields : Fields) (packet : List ℕ) (k : ℕ) (output : List ℕ) where
   as-refused : (name : Refusal) → refused (number name) ≡ send fields packet k (length output) → Sent fields packet k output (Refused name) output
-  as-refused name e = (rw (sym e), rw (sym e))
+  as-refused name e = not-written _ output (number name) e
 
   pub bad-field : inRange fields ≡ false → Sent fields packet k output (Refused Field) output
   unfolding send
-  bad-field h = as-refused Field (stop Field _ _ h)
+  bad-field h = as-refused Field (stop-then Field _ _ h)
 
   pub bad-size : inRange fields ≡ true → (format : Format) → format ≡ formatOf fields → packetLimit format < length packet
       → Sent fields packet k output (Refused Size) output
   unfolding send
   bad-size r format e h =
       let m : packetLimit (formatOf fields) < length packet = rw (← e) h in
-      as-refused Size (pass Field _ _ r (stop Size _ _ (lt-leb _ _ m)))
+      as-refused Size (pass-then Field _ _ r (stop-then Size _ _ (lt-leb _ _ m)))
 
   module _ (format : Format) (z : ℕ) (s : Sized fields packet format z) (count : ℕ) (ec : count ≡ countOf z (length packet)) where
     within-limit : leb (length packet) (packetLimit (formatOf fields)) ≡ true
@@ -80,14 +82,14 @@ module _ (fields : Fields) (packet : List ℕ) (k : ℕ) (output : List ℕ) whe
     unfolding send
     bad-index h =
         let m : countOf (pieceSize (formatOf fields)) (length packet) ≤ k = rw (← s .of-format, ← s .size, ← ec) h in
-        as-refused Index (pass Field _ _ (s .range) (pass Size _ _ within-limit (stop Index _ _ (le-ltb _ _ m))))
+        as-refused Index (pass-then Field _ _ (s .range) (pass-then Size _ _ within-limit (stop-then Index _ _ (le-ltb _ _ m))))
 
     -- then only ROOM is left
-    is-placed : k < count → placed (piece fields packet k) (length output) ≡ send fields packet k (length output)
-    unfolding placed send
-    is-placed h =
+    is-fitting : k < count → fitting (imageOf (piece fields packet k)) (length output) ≡ send fields packet k (length output)
+    unfolding send
+    is-fitting h =
         let m : k < countOf (pieceSize (formatOf fields)) (length packet) = rw (← s .of-format, ← s .size, ← ec) h in
-        pass Field _ _ (s .range) (pass Size _ _ within-limit (pass Index _ _ (lt-ltb _ _ m) refl))
+        pass-then Field _ _ (s .range) (pass-then Size _ _ within-limit (pass-then Index _ _ (lt-ltb _ _ m) (none-left-then _)))
 
 -- piece k as the code has it: flag, number n and bytes
 module _ {fields : Fields} {packet : List ℕ} {k : ℕ} {format : Format} {z count : ℕ} (i : Indexed fields packet k format z count) (flag : Flag) (eg : flag ≡ pieceFlag count k) (n : ℕ) (en : n ≡ k % numberRange format) (bytes : List ℕ) (eb : bytes ≡ pieceBytes z packet k) where
@@ -100,8 +102,9 @@ module _ {fields : Fields} {packet : List ℕ} {k : ℕ} {format : Format} {z co
   unfolding piece
   is-piece = let s = i .sized in rw (eg, en, eb, i .counted, s .size, s .of-format)
 
-  pub whole : (output : List ℕ) (r : Outcome) (last : List ℕ) → Placed (frameWith fields flag n bytes) output r last → Sent fields packet k output r last
+  pub whole : (output : List ℕ) (r : Outcome) (last : List ℕ)
+      → Writes (fitting (imageOf (frameWith fields flag n bytes)) (length output)) output (meaning r) last → Sent fields packet k output r last
   whole output r last p =
-      let q = rw is-piece at p in
-      let e = is-placed fields packet k output format z (i .sized) count (i .counted) (i .index) in
-      (rw (sym e) (q .answers), rw (sym e) (q .leaves))
+      let e = is-fitting fields packet k output format z (i .sized) count (i .counted) (i .index) in
+      let given = ap (λ (f : Frame). fitting (imageOf f) (length output)) is-piece ∙ e in
+      subst (λ (g : Result (List ℕ)). Writes g output (meaning r) last) given p

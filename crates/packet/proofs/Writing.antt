@@ -8,7 +8,7 @@ use lib.ListN.{length, take, drop, length-append}
 use lib.Seq.{length-take-le, take-at, drop-append-add, drop-drop}
 use Rattle.copying.specs.Copy.{written, copied}
 use Rattle.copying.proofs.Copying.{all-copied, written-length}
-use Rattle.packet.specs.Send.{over}
+use Rattle.format.specs.Outputs.{over}
 
 -- at the start
 at-start : (x output : List ℕ) → written output 0 x ≡ over x output

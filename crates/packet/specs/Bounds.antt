@@ -10,8 +10,9 @@ use Rattle.format.specs.declared.Format.the-variants.{Extended, Standard}
 use Rattle.format.specs.declared.Fields.{Fields}
 use Rattle.format.specs.declared.Fields.the-variants as fields
 use Rattle.format.specs.Refusals.{Result, value, refused}
+use Rattle.format.specs.Outputs.{answer}
 use Rattle.format.specs.Tables.{AllHold}
-use Rattle.packet.specs.Send.{pieceCount, send, answer}
+use Rattle.packet.specs.Send.{pieceCount, send}
 
 pub data Bound : Type 0 where
   -- a packet's size, and its piece count

@@ -1,14 +1,15 @@
 -- Document 01, "Splitting", last sentence, and "Refusal numbers" 9 to 12: "A caller may ask for the piece count, or for piece
 -- k written to a lent output; only the bytes of that image are written." "Order: [..] 9, then [..] for sending 10, 11, 12."
 use Prim.Native.Nat.{ℕ}
-use mathlib.Core.List.{List, [], _∷_, _++_}
+use mathlib.Core.List.{List, [], _∷_}
 use lib.Dec.{leb, ltb}
-use lib.ListN.{length, drop}
+use lib.ListN.{length}
 use Rattle.format.specs.declared.Format.{Format}
 use Rattle.format.specs.declared.Fields.{Fields}
-use Rattle.format.specs.declared.Refusal.the-variants.{Field, Size, Index, Room}
+use Rattle.format.specs.declared.Refusal.the-variants.{Field, Size, Index}
 use Rattle.format.specs.Formats.{packetLimit, pieceSize, formatOf, inRange}
-use Rattle.format.specs.Refusals.{Result, value, refused, check, guarded}
+use Rattle.format.specs.Refusals.{Result, check, guarded, checkedThen}
+use Rattle.format.specs.Outputs.{fitting}
 use Rattle.frame.specs.Image.{imageOf}
 use Rattle.packet.specs.Split.{countOf, piece}
 
@@ -22,24 +23,9 @@ unfoldable pub send : Fields → List ℕ → (k room : ℕ) → Result (List �
 send fields packet k room =
     let format : Format = formatOf fields in
     let image : List ℕ = imageOf (piece fields packet k) in
-    guarded
+    checkedThen
     (check Field (inRange fields)
     ∷ check Size (leb (length packet) (packetLimit format))
     ∷ check Index (ltb k (countOf (pieceSize format) (length packet)))
-    ∷ check Room (leb (length image) room)
     ∷ [])
-    image
-
--- the call answers the image's length
-abbrev pub answer : Result (List ℕ) → Result ℕ
-answer (value image) = value (length image)
-answer (refused n) = refused n
-
--- the output with the image written over its head
-abbrev pub over : List ℕ → List ℕ → List ℕ
-over image output = image ++ drop (length image) output
-
--- the output afterwards; a refusal leaves it as it was
-abbrev pub outputAfter : Result (List ℕ) → List ℕ → List ℕ
-outputAfter (value image) output = over image output
-outputAfter (refused n) output = output
+    (fitting image room)

@@ -12,10 +12,11 @@ ghost use lib.ListN.{length, take};
 ghost use Rattle.copying.specs.Copy.{copied};
 ghost use Rattle.format.specs.Formats.{numberRange, formatOf, inRange};
 ghost use Rattle.format.specs.Refusals.{meaning};
-ghost use Rattle.frame.specs.Image.{headerBytes};
+ghost use Rattle.format.specs.Outputs.{fitting, answer, over, outputAfter, Writes};
+ghost use Rattle.frame.specs.Image.{headerBytes, imageOf};
 ghost use Rattle.packet.specs.Split.{countOf, pieceFlag, pieceBytes, frameWith};
-ghost use Rattle.packet.specs.Send.{pieceCount, send, answer, over, outputAfter};
-ghost use Rattle.packet.specs.Parts.{filler, Placed};
+ghost use Rattle.packet.specs.Send.{pieceCount, send};
+ghost use Rattle.packet.specs.Parts.{filler};
 ghost use Rattle.packet.specs.Claims.{Splitting};
 ghost use Rattle.packet.specs.Examples.{ExamplesHold};
 ghost use Rattle.packet.specs.Bounds.{SendingBounds};
@@ -154,7 +155,7 @@ fn header_of(fields: Fields, flag: Flag, number: u8, count: u8) -> [u8; 6]
 // Writes the image of a frame, or refuses with ROOM.
 fn place(fields: Fields, flag: Flag, number: u8, bytes: &[u8], output: &mut [u8]) -> Outcome
     requires { ⌜ (inRange fields ≡ true) × (number < numberRange (formatOf fields)) × (length (now bytes) ≤ 8) ⌝ }
-    ensures { λ r. ⌜ Placed (frameWith fields flag number (now (bytes .entry))) (now (output .entry)) r (now (output .exit)) ⌝ }
+    ensures { λ r. ⌜ Writes (fitting (imageOf (frameWith fields flag number (now (bytes .entry)))) (length (now (output .entry)))) (now (output .entry)) (meaning r) (now (output .exit)) ⌝ }
 {
     let format = fields.format();
     let start = format.packet_start(flag);

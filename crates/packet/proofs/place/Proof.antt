@@ -1,7 +1,7 @@
 -- `packet::place` meets its contract: ROOM, or the header and the bytes together are the image (Placing).
 use borrow.Author.Needs.{needs}
 use Prim.Native.Nat.{ℕ, _+_, _≤_}
-use mathlib.Core.Path.{_≡_, ap, _∙_}
+use mathlib.Core.Path.{_≡_, sym, ap, _∙_}
 use mathlib.Core.List.{List}
 use native.Mathlib.Omega.{arith}
 use lib.ListN.{length}
@@ -10,8 +10,9 @@ use Rattle.format.specs.Formats.{headerSize, packetStart, formatOf}
 use Rattle.format.proofs.Limits.{five-bytes, start-near}
 use Rattle.frame.specs.Image.{imageOf}
 use Rattle.packet.specs.Split.{frameWith}
-use Rattle.packet.specs.Send.{over}
-use Rattle.packet.proofs.Placing.{no-room, has-room, image-size, image-led, head-six}
+use Rattle.format.specs.Outputs.{over}
+use Rattle.format.proofs.Outputs.{no-room, has-room, not-written, written-over}
+use Rattle.packet.proofs.Placing.{image-size, image-led, head-six}
 use Rattle.packet.proofs.place.Statement.{statement}
 use Rattle.packet.proofs.place.Tie as tie
 
@@ -48,7 +49,9 @@ add-size : tie.Need-add-size
 add-size c = record { fits = omega (arith, near c) }
 
 returns : tie.Need-returns
-returns c = no-room _ _ _ (sized (c .before)) (omega arith)
+returns c =
+    let output = c .before .before .before .before .before .args .output .now in
+    not-written _ output 12 (no-room _ output _ (sym (sized (c .before))) (omega arith))
 
 header-size-requires : tie.Need-header-size-requires
 header-size-requires c κs = search needs
@@ -83,7 +86,8 @@ returns-2 c =
     let a = s .before .before .before .before .args in
     let heads = m .before .header-size .ensures ∙ ap headerSize (s .before .format .ensures) in
     let led = image-led (a .flag) (a .number) (a .bytes .now) (a .fields) _ (starts s) _ heads _ (m .header-of .ensures) in
-    has-room _ (a .output .now) _ (sized s) (omega arith) _
+    let n = sym (sized s) in
+    written-over _ (a .output .now) _ _ _ (has-room _ (a .output .now) _ n (omega arith)) n
     (c .before .before .put .ensures ∙ ap (λ (x : List ℕ). over x (a .output .now)) led)
 
 pub place-spec : {M : Type 1} → statement M

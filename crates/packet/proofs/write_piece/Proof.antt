@@ -110,7 +110,9 @@ returns-4 c =
     let p = c .before .before in
     let n = p .before .before .before in
     let g = n .before .before in
-    whole (indexed (g .before)) _ (g .flag-at .ensures) _ (numbered n) _ (p .before .before .bytes-at .ensures) _ _ _ (p .place .ensures)
+    let output = g .before .before .before .before .before .before .before .before .before .before .before .args .output .now in
+    whole (indexed (g .before)) _ (g .flag-at .ensures) _ (numbered n) _ (p .before .before .bytes-at .ensures) output (p .place .result) (p .place .last .1 .1 .1 .1 .0)
+    (p .place .ensures)
 
 pub write-piece-spec : {M : Type 1} → statement M
 write-piece-spec =
