@@ -8,7 +8,7 @@ use lib.Seq.{drop-drop}
 use borrow.Rule.Slice.PartMut.{midOf, putMid}
 use Rattle.copying.specs.Copy.{written, copied}
 use Rattle.format.specs.Refusals.{Result}
-use Rattle.packet.specs.Send.{answer, outputAfter}
+use Rattle.format.specs.Outputs.{answer, outputAfter}
 use Rattle.calls_program.specs.Responses.{outcomeBytes, lentIn}
 
 -- `size` bytes were lent, from place `at` on

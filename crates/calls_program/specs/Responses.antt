@@ -5,7 +5,7 @@ use mathlib.Core.List.{List, [], _∷_, _++_}
 use lib.Dec.{ltb}
 use lib.ListN.{length, replicate}
 use Rattle.copying.specs.Copy.{written, copied}
-use Rattle.packet.specs.Send.{answer, outputAfter}
+use Rattle.format.specs.Outputs.{answer, outputAfter}
 use Rattle.format.specs.declared.Fields.{Fields}
 use Rattle.format.specs.declared.Fields.the-variants.{Extended, Standard}
 use Rattle.format.specs.Refusals.{Result, value, refused}

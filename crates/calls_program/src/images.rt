@@ -34,7 +34,7 @@ use trace::Line;
 ghost use mathlib.Core.Path.{_≡_};
 ghost use lib.ListN.{length, replicate};
 ghost use Rattle.format.specs.Refusals.{meaning};
-ghost use Rattle.packet.specs.Send.{answer, outputAfter};
+ghost use Rattle.format.specs.Outputs.{answer, outputAfter};
 ghost use Rattle.trace.specs.Lines.{writing};
 ghost use Rattle.copying.specs.Copy.{copied};
 ghost use Rattle.format.specs.Refusals as refusals;

@@ -25,7 +25,7 @@ use lister::Why;
 ghost use mathlib.Core.Path.{_≡_};
 ghost use lib.ListN.{length, replicate};
 ghost use Rattle.format.specs.Refusals.{meaning};
-ghost use Rattle.packet.specs.Send.{answer, outputAfter};
+ghost use Rattle.format.specs.Outputs.{answer, outputAfter};
 ghost use Rattle.lister.specs.Listing.{listing, listingAfter, ending};
 ghost use Rattle.copying.specs.Copy.{copied};
 ghost use Rattle.lister.specs.Listing as listings;

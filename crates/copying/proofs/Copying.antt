@@ -2,12 +2,20 @@
 use Prim.Native.Nat.{ℕ, suc, _+_, _≤_, _<_}
 use mathlib.Core.Path.{_≡_}
 use mathlib.Core.Bool.{true, false}
-use mathlib.Core.List.{List, append-assoc}
+use mathlib.Core.List.{List, _++_, append-assoc}
+use native.Mathlib.Nat.{zero-add}
 use native.Mathlib.Omega.{arith}
-use lib.ListN.{length, getD, set, length-append, length-drop}
+use lib.ListN.{length, drop, getD, set, length-append, length-drop}
 use lib.Seq.{paste, paste-zero, paste-suc, length-take-le, take-length}
 use borrow.Author.Tests.{le-leb, lt-leb}
 use Rattle.copying.specs.Copy.{written, within, copied}
+
+-- bytes copied to the head of a list that has room for them
+pub head-copied : (list bytes : List ℕ) → length bytes ≤ length list → copied list 0 bytes ≡ bytes ++ drop (length bytes) list
+unfolding copied within written
+head-copied list bytes h =
+    let m : 0 + length bytes ≤ length list = omega arith in
+    rw (le-leb _ _ m, zero-add)
 
 module _ (list : List ℕ) (at : ℕ) (bytes : List ℕ) where
   -- they end within: all of them are written, and the length stays

@@ -1,20 +1,20 @@
 -- The call: refused, or all that can be listed.
-use Prim.Native.Nat.{ℕ, _+_}
+use Prim.Native.Nat.{ℕ, _+_, _≤_, _<_}
 use mathlib.Core.Path.{_≡_, refl, sym, ap, _∙_}
-use native.Mathlib.Nat.{zero-add}
+use native.Mathlib.Omega.{arith}
 use mathlib.Core.Logic.{_≢_}
 use mathlib.Core.Bool.{Bool, true, false, not}
 use mathlib.Core.List.{List, [], _∷_}
-use lib.Dec.{leb}
 use lib.ListN.{length}
-use borrow.Author.Tests.{eq-eqb, ne-eqb}
+use borrow.Author.Tests.{eq-eqb, ne-eqb, leb-true, leb-false}
 use Rattle.format.specs.declared.Format.the-variants.{Extended}
-use Rattle.format.specs.declared.Refusal.the-variants.{State, Store, Room}
+use Rattle.format.specs.declared.Refusal.the-variants.{State, Store}
 use Rattle.format.specs.Refusals.{Result, value, refused, check, guarded}
 use Rattle.format.proofs.Checks.{stop, pass, none-left}
-use Rattle.copying.specs.Copy.{written, within, copied}
-use Rattle.packet.specs.Send as over
-use Rattle.packet.specs.Send.{answer}
+use Rattle.copying.specs.Copy.{within, copied}
+use Rattle.copying.proofs.Copying.{head-copied, none-copied}
+use Rattle.format.specs.Outputs.{Writes}
+use Rattle.format.proofs.Outputs.{no-room, has-room, not-written, written-over}
 use Rattle.slot.specs.Sound.{sound}
 use Rattle.trace.specs.declared.Entry.{Entry}
 use Rattle.trace.specs.Records as records
@@ -61,18 +61,20 @@ stops-read rest entry x e ex = ap stopsAt (ap (λ (y : Entry). records.meaning y
 
 module _ (l : Listing) (rest output : List ℕ) (n : ℕ) (bytes : List ℕ) (eb : bytes ≡ lastLines l rest) (en : n ≡ length (lastLines l rest)) where
   abbrev ends : Result ℕ → List ℕ → Type 0
-  ends r last = (r ≡ answer (ending l rest (length output))) × (last ≡ over.outputAfter (ending l rest (length output)) output)
+  ends = Writes (ending l rest (length output)) output
 
-  pub has-room : within output 0 bytes ≡ true → (last : List ℕ) → last ≡ copied output 0 bytes → ends (value n) last
-  unfolding ending within copied written
-  has-room h last el =
-      let p : ending l rest (length output) ≡ value (lastLines l rest) =
-      sym (pass Room _ _ (sym (ap (λ (k : ℕ). leb k (length output)) (zero-add _ ∙ ap length eb)) ∙ h) (none-left _)) in
-      (rw (p, en), rw (p, el, h, eb, zero-add))
+  pub within-room : within output 0 bytes ≡ true → (last : List ℕ) → last ≡ copied output 0 bytes → ends (value n) last
+  unfolding ending within
+  within-room h last el =
+      let m : 0 + length bytes ≤ length output = leb-true _ _ h in
+      let s = ap length eb in
+      written-over _ output (lastLines l rest) n last (has-room (lastLines l rest) output n en (omega arith)) en
+      (el ∙ rw eb (head-copied output (lastLines l rest) (omega arith)))
 
-  pub no-room : within output 0 bytes ≡ false → (last : List ℕ) → last ≡ copied output 0 bytes → ends (refused 12) last
-  unfolding ending within copied
-  no-room h last el =
-      let p : ending l rest (length output) ≡ refused 12 =
-      sym (stop Room _ _ (sym (ap (λ (k : ℕ). leb k (length output)) (zero-add _ ∙ ap length eb)) ∙ h)) in
-      (rw p, rw (p, el, h))
+  pub too-long : within output 0 bytes ≡ false → (last : List ℕ) → last ≡ copied output 0 bytes → ends (refused 12) last
+  unfolding ending within
+  too-long h last el =
+      let m : length output < 0 + length bytes = leb-false _ _ h in
+      let s = ap length eb in
+      let none : last ≡ output = el ∙ none-copied output 0 bytes m in
+      rw none (not-written _ output 12 (no-room (lastLines l rest) output n en (omega arith)))

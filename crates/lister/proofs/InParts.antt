@@ -12,7 +12,7 @@ use borrow.Author.Tests.{eq-eqb, eqb-true}
 use Rattle.format.specs.declared.Format.the-variants.{Extended}
 use Rattle.format.specs.Refusals.{value, refused, guarded}
 use Rattle.frame.specs.Judge.{judge}
-use Rattle.packet.specs.Send.{answer, outputAfter}
+use Rattle.format.specs.Outputs.{fitting, answer, outputAfter}
 use Rattle.station.specs.Stations.{fullSize}
 use Rattle.station.proofs.Soundness.{met}
 use Rattle.trace.specs.Records.{Found, whole, damaged, cut, none, recordAt}
@@ -173,7 +173,7 @@ in-parts s parts ok full =
 -- the call that ends the listing writes the last lines, where it has room
 at-last : (l : Listing) (rest output : List ℕ) (n : ℕ) → answer (ending l rest (length output)) ≡ value n
     → take n (outputAfter (ending l rest (length output)) output) ≡ lastLines l rest
-unfolding ending guarded
+unfolding ending fitting guarded
 at-last l rest output n = go (leb (length (lastLines l rest)) (length output))
   where
     go : (b : Bool) → answer (cond b (value (lastLines l rest)) (refused 12)) ≡ value n

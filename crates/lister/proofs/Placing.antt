@@ -6,14 +6,14 @@ use mathlib.Core.List.{List, [], _∷_, _++_, append-assoc, append-nil}
 use native.Mathlib.Omega.{arith}
 use lib.ListN.{length, take, drop, length-append, length-drop, length-take, drop-of-length-le}
 use lib.Seq.{take-at, drop-at, drop-drop, take-all, length-take-le}
-use borrow.Author.Tests.{le-leb}
 use borrow.Rule.Slice.PartMut.{putMid}
 use Rattle.copying.specs.Copy.{written}
 use Rattle.copying.proofs.Copying.{written-length}
-use Rattle.format.specs.declared.Refusal.the-variants.{Field, Room}
+use Rattle.format.specs.declared.Refusal.the-variants.{Field}
 use Rattle.format.specs.Refusals.{Result, value, refused}
-use Rattle.format.proofs.Checks.{pass, none-left}
-use Rattle.packet.specs.Send.{answer, outputAfter}
+use Rattle.format.proofs.Checks.{pass-then, none-left-then}
+use Rattle.format.proofs.Outputs.{has-room}
+use Rattle.format.specs.Outputs.{answer, outputAfter}
 use Rattle.trace.specs.declared.Line.{Line}
 use Rattle.trace.specs.Lines.{lineText, lineInRange, writing}
 use Rattle.trace.specs.Claims.{RoomForLine}
@@ -48,7 +48,9 @@ module _ (line : Line) (output : List ℕ) (at : ℕ) (ok : lineInRange line ≡
 
   fits : writing line (length part) ≡ value (lineText line)
   unfolding writing
-  fits = sym (pass Field _ _ ok (pass Room _ _ (le-leb (length (lineText line)) (length part) (omega (arith, size, short))) (none-left _)))
+  fits =
+      let room = has-room (lineText line) part (length (lineText line)) refl (omega (arith, size, short)) in
+      sym (pass-then Field _ _ ok (room ∙ none-left-then _))
 
   pub never-refused : (n : ℕ) → refused n ≡ answer (writing line (length part)) → ⊥
   never-refused n e =

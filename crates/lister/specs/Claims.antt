@@ -7,7 +7,7 @@ use mathlib.Core.Bool.{Bool, true, false}
 use mathlib.Core.List.{List, [], _∷_, _++_}
 use lib.ListN.{length, take, drop}
 use Rattle.format.specs.Refusals.{Result, value, refused}
-use Rattle.packet.specs.Send.{answer, outputAfter}
+use Rattle.format.specs.Outputs.{answer, outputAfter}
 use Rattle.station.specs.Stations.{soundStation, fullSize}
 use Rattle.trace.specs.Records.{whole, recordAt}
 use Rattle.trace.specs.Lines.{headerLine}

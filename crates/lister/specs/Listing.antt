@@ -6,10 +6,10 @@ use mathlib.Core.List.{List, [], _∷_, _++_}
 use lib.Dec.{leb}
 use lib.ListN.{length, drop, replicate}
 use Rattle.format.specs.declared.Format.the-variants.{Extended}
-use Rattle.format.specs.declared.Refusal.the-variants.{State, Store, Room}
+use Rattle.format.specs.declared.Refusal.the-variants.{State, Store}
 use Rattle.format.specs.Refusals.{Result, value, refused, check, guarded, number}
 use Rattle.frame.specs.Judge.{Frame, Judged, judge}
-use Rattle.packet.specs.Send.{over}
+use Rattle.format.specs.Outputs.{fitting, over}
 use Rattle.stream.specs.Answers.{Reply}
 use Rattle.slot.specs.declared.Slot.{Slot}
 use Rattle.slot.specs.Slots.{closedSlot}
@@ -181,4 +181,4 @@ lastLines l rest = endText (stopsAt (recordAt rest)) (l .count)
 
 -- for an output of `space` bytes. ROOM: output shorter than that
 unfoldable pub ending : Listing → (rest : List ℕ) (space : ℕ) → Result (List ℕ)
-ending l rest space = guarded (check Room (leb (length (lastLines l rest)) space) ∷ []) (lastLines l rest)
+ending l rest space = fitting (lastLines l rest) space

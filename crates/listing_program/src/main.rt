@@ -8,7 +8,7 @@ ghost use mathlib.Core.Path.{_≡_};
 ghost use Prim.Native.Nat.{_≤_};
 ghost use mathlib.Core.Bool.{false};
 ghost use lib.ListN.{length, take};
-ghost use Rattle.packet.specs.Send.{outputAfter};
+ghost use Rattle.format.specs.Outputs.{outputAfter};
 ghost use Rattle.lister.specs.Listing as listings;
 
 // Between two reads: the listing, and how many bytes of the input are held that are no whole record.

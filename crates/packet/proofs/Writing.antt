@@ -2,35 +2,26 @@
 use Prim.Native.Nat.{ℕ, _+_, _≤_}
 use mathlib.Core.Path.{_≡_, sym, ap, _∙_}
 use mathlib.Core.List.{List, _++_, append-assoc}
-use native.Mathlib.Nat.{zero-add}
 use native.Mathlib.Omega.{arith}
-use lib.ListN.{length, take, drop, length-append}
+use lib.ListN.{length, take, drop, length-append, length-drop}
 use lib.Seq.{length-take-le, take-at, drop-append-add, drop-drop}
 use Rattle.copying.specs.Copy.{written, copied}
-use Rattle.copying.proofs.Copying.{all-copied, written-length}
+use Rattle.copying.proofs.Copying.{head-copied, all-copied}
 use Rattle.format.specs.Outputs.{over}
 
--- at the start
-at-start : (x output : List ℕ) → written output 0 x ≡ over x output
-unfolding written
-at-start x output = rw zero-add
-
--- and then more after it
+-- after what stands at the start
 after-head : (x bytes output : List ℕ) → written (over x output) (length x) bytes ≡ over (x ++ bytes) output
 unfolding written
 after-head x bytes output = rw (take-at x (drop (length x) output) (length x), drop-append-add, drop-drop, length-append, append-assoc)
 
 module _ (x bytes output : List ℕ) (room : length x + length bytes ≤ length output) where
-  first : copied output 0 x ≡ over x output
-  first = all-copied output 0 x (omega arith) ∙ at-start x output
-
   long : length (over x output) ≡ length output
-  long = ap length (sym (at-start x output)) ∙ written-length output 0 x (omega arith)
+  long = rw (length-append, length-drop) (omega arith)
 
   both : copied (copied output 0 x) (length x) bytes ≡ over (x ++ bytes) output
   both =
       let l = long in
-      rw first (all-copied (over x output) (length x) bytes (omega arith) ∙ after-head x bytes output)
+      rw (head-copied output x (omega arith)) (all-copied (over x output) (length x) bytes (omega arith) ∙ after-head x bytes output)
 
 pub then : (head bytes output : List ℕ) (m : ℕ) → m ≤ length head → m + length bytes ≤ length output
     → copied (copied output 0 (take m head)) m bytes ≡ over (take m head ++ bytes) output

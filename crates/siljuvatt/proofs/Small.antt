@@ -25,7 +25,8 @@ use Rattle.frame.specs.Judge.{Frame, Judged, judge}
 use Rattle.frame.specs.Image.{imageOf}
 use Rattle.frame.proofs.Judged.{sound-image, by-judging}
 use Rattle.packet.specs.Split.{countOf, piece, pieces}
-use Rattle.packet.specs.Send.{pieceCount, send, answer}
+use Rattle.format.specs.Outputs.{answer}
+use Rattle.packet.specs.Send.{pieceCount, send}
 use Rattle.packet.specs.Claims.{Splitting, IsSplit}
 use Rattle.packet.proofs.Pieces.{splitting}
 use Rattle.stream.specs.declared.Progress.{Progress}

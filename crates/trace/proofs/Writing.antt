@@ -9,11 +9,12 @@ use lib.ListN.{length, take, length-take}
 use lib.Seq.{length-take-le}
 use borrow.Author.Tests.{le-leb, lt-leb}
 use Rattle.copying.specs.Copy.{written, copied}
-use Rattle.copying.proofs.Copying.{all-copied}
+use Rattle.copying.proofs.Copying.{head-copied}
 use Rattle.format.specs.Refusals.{Result, value, refused}
-use Rattle.format.specs.declared.Refusal.the-variants.{Field, Room}
-use Rattle.format.proofs.Checks.{stop, pass, none-left}
-use Rattle.packet.specs.Send.{answer, outputAfter}
+use Rattle.format.specs.Outputs.{fitting, Writes}
+use Rattle.format.specs.declared.Refusal.the-variants.{Field}
+use Rattle.format.proofs.Checks.{stop-then, pass-then, none-left-then}
+use Rattle.format.proofs.Outputs.{no-room, has-room, not-written, written-over}
 use Rattle.trace.specs.declared.Line.{Line}
 use Rattle.trace.specs.Lines.{lineText, lineInRange, writing}
 use Rattle.trace.specs.Parts.{Put}
@@ -37,30 +38,25 @@ not-false : (b : Bool) → not b ≡ false → b ≡ true
 not-false true e = refl
 not-false false e = cc
 
--- what the call answers, and the output afterwards
-abbrev pub Written : Line → List ℕ → Result ℕ → List ℕ → Type 0
-Written line output r last =
-    (r ≡ answer (writing line (length output))) × (last ≡ outputAfter (writing line (length output)) output)
-
 module _ (line : Line) (output : List ℕ) where
-  pub out-of-range : not (lineInRange line) ≡ true → Written line output (refused 9) output
+  -- what the call answers, and the output afterwards
+  abbrev Says : Result ℕ → List ℕ → Type 0
+  Says = Writes (writing line (length output)) output
+
+  pub out-of-range : not (lineInRange line) ≡ true → Says (refused 9) output
   unfolding writing
-  out-of-range h =
-      let p : writing line (length output) ≡ refused 9 = sym (stop Field _ _ (not-true (lineInRange line) h)) in (rw p, rw p)
+  out-of-range h = not-written _ output 9 (stop-then Field _ _ (not-true (lineInRange line) h))
 
   module _ (ok : not (lineInRange line) ≡ false) (n : ℕ) (e : n ≡ length (lineText line)) where
-    pub no-room : length output < n → Written line output (refused 12) output
+    -- only ROOM is left
+    fits : {r : Result (List ℕ)} → r ≡ fitting (lineText line) (length output) → r ≡ writing line (length output)
     unfolding writing
-    no-room h =
-        let m : length output < length (lineText line) = omega arith in
-        let p : writing line (length output) ≡ refused 12 =
-        sym (pass Field _ _ (not-false (lineInRange line) ok) (stop Room _ _ (lt-leb _ _ m))) in (rw p, rw p)
+    fits p = pass-then Field _ _ (not-false (lineInRange line) ok) (p ∙ none-left-then _)
 
-    pub has-room : n ≤ length output → (bytes last : List ℕ) → bytes ≡ lineText line → last ≡ copied output 0 bytes → Written line output (value n) last
-    unfolding writing written
-    has-room h bytes last eb el =
-        let m : length (lineText line) ≤ length output = omega arith in
-        let w : 0 + length (lineText line) ≤ length output = omega arith in
-        let p : writing line (length output) ≡ value (lineText line) =
-        sym (pass Field _ _ (not-false (lineInRange line) ok) (pass Room _ _ (le-leb _ _ m) (none-left _))) in
-        (rw (p, e), rw (p, el, eb, all-copied output 0 (lineText line) w, zero-add))
+    pub too-long : length output < n → Says (refused 12) output
+    too-long h = not-written _ output 12 (fits (no-room (lineText line) output n e h))
+
+    pub within-room : n ≤ length output → (bytes last : List ℕ) → bytes ≡ lineText line → last ≡ copied output 0 bytes → Says (value n) last
+    within-room h bytes last eb el =
+        written-over _ output (lineText line) n last (fits (has-room (lineText line) output n e h)) e
+        (el ∙ rw eb (head-copied output (lineText line) (omega arith)))

@@ -8,14 +8,14 @@ use Prim.Native.String.{String}
 use mathlib.Core.Bool.{Bool, true, false, cond}
 use mathlib.Core.List.{List, [], _∷_, _++_}
 use lib.Dec.{leb, ltb}
-use lib.ListN.{length}
 use Rattle.format.specs.declared.Fields.{Fields}
 use Rattle.format.specs.declared.Fields.the-variants.{Extended, Standard}
 use Rattle.format.specs.declared.Flag.{Flag}
-use Rattle.format.specs.declared.Refusal.the-variants.{Field, Room}
+use Rattle.format.specs.declared.Refusal.the-variants.{Field}
 use Rattle.format.specs.Tests.{allTrue}
 use Rattle.format.specs.Formats.{inRange, flagBits}
-use Rattle.format.specs.Refusals.{Result, value, refused, check, guarded, number}
+use Rattle.format.specs.Refusals.{Result, value, refused, check, checkedThen, number}
+use Rattle.format.specs.Outputs.{fitting}
 use Rattle.stream.specs.Answers.{Reply, packet, kept, filtered, meaning}
 use Rattle.trace.specs.declared.Line.{Line}
 use Rattle.trace.specs.declared.Line.the-variants as line
@@ -107,4 +107,4 @@ lineInRange (line.Records n) = true
 -- for an output of `room` bytes. FIELD: the bus or a field is out of range. ROOM: output shorter than the line
 unfoldable pub writing : Line → (room : ℕ) → Result (List ℕ)
 writing said room =
-    guarded (check Field (lineInRange said) ∷ check Room (leb (length (lineText said)) room) ∷ []) (lineText said)
+    checkedThen (check Field (lineInRange said) ∷ []) (fitting (lineText said) room)

@@ -12,7 +12,7 @@ ghost use Rattle.format.specs.Formats.{flagBits};
 ghost use Rattle.format.specs.Refusals.{refused, number};
 ghost use Rattle.format.specs.Refusals.{meaning as outcome·meaning};
 ghost use Rattle.stream.specs.Answers.{meaning as reply·meaning};
-ghost use Rattle.packet.specs.Send.{answer, outputAfter};
+ghost use Rattle.format.specs.Outputs.{answer, outputAfter};
 ghost use Rattle.trace.specs.Records.{recordAt, meaning};
 ghost use Rattle.trace.specs.Lines.{ascii, decimal, fieldText, fieldsText, busName, brokeOr, answerText, columns, frameLine, refusedLine, stoppedLine, countLine, lineText, extendedInRange, lineInRange, writing};
 ghost use Rattle.trace.specs.Parts.{Put};

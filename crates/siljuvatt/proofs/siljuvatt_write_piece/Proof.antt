@@ -2,7 +2,8 @@
 use mathlib.Core.Path.{_∙_, ap}
 use lib.ListN.{length}
 use Rattle.format.specs.declared.Fields.{Fields}
-use Rattle.packet.specs.Send.{send, answer, outputAfter}
+use Rattle.format.specs.Outputs.{answer, outputAfter}
+use Rattle.packet.specs.Send.{send}
 use Rattle.siljuvatt.specs.Answers.{outcomeWord}
 use borrow.Author.Needs.{needs}
 use Rattle.siljuvatt.proofs.siljuvatt_write_piece.Statement.{statement}

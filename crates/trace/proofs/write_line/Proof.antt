@@ -1,7 +1,7 @@
 -- `trace::write_line` meets its contract: refused, or the text that was put is copied to the output (Writing).
 use mathlib.Core.Path.{sym}
 use lib.Seq.{length-take-le}
-use Rattle.trace.proofs.Writing.{all-of, size-of, within, out-of-range, no-room, has-room}
+use Rattle.trace.proofs.Writing.{all-of, size-of, within, out-of-range, too-long, within-room}
 use borrow.Author.Needs.{needs}
 use Rattle.trace.proofs.write_line.Statement.{statement}
 use Rattle.trace.proofs.write_line.Tie as tie
@@ -19,7 +19,7 @@ put-line-requires c κs = search needs
 returns-2 : tie.Need-returns-2
 returns-2 c =
     let g = c .before .before .before .before .before .before in let p = c .before .put-line in
-    no-room (g .args .line) (g .args .output .now) (rw (c .before .before .before .before .line-in-range .ensures) at (c .before .before .before .if1 .left)) (p .result) (size-of (p .ensures)) (c .if2 .taken)
+    too-long (g .args .line) (g .args .output .now) (rw (c .before .before .before .before .line-in-range .ensures) at (c .before .before .before .if1 .left)) (p .result) (size-of (p .ensures)) (c .if2 .taken)
 
 array-share-prefix-text : tie.Need-array-share-prefix-text
 array-share-prefix-text c = within (c .before .before .put-line .ensures)
@@ -37,7 +37,7 @@ same-length c = search needs
 returns-3 : tie.Need-returns-3
 returns-3 c =
     let g = c .before .before .before .before .before .before .before .before .before .before .before in let p = c .before .before .before .before .before .before .put-line in
-    has-room (g .args .line) (g .args .output .now) (rw (c .before .before .before .before .before .before .before .before .before .line-in-range .ensures) at (c .before .before .before .before .before .before .before .before .if1 .left)) (p .result) (size-of (p .ensures)) (c .before .before .before .before .before .if2 .left) _ _ (all-of (p .ensures)) (c .before .before .copy-in .ensures .1)
+    within-room (g .args .line) (g .args .output .now) (rw (c .before .before .before .before .before .before .before .before .before .line-in-range .ensures) at (c .before .before .before .before .before .before .before .before .if1 .left)) (p .result) (size-of (p .ensures)) (c .before .before .before .before .before .if2 .left) _ _ (all-of (p .ensures)) (c .before .before .copy-in .ensures .1)
 
 pub write-line-spec : {M : Type 1} → statement M
 write-line-spec =

@@ -4,7 +4,7 @@ use mathlib.Core.Bool.{Bool}
 use lib.Seq.{length-take-le}
 use Rattle.lister.specs.Listing.{endText}
 use Rattle.lister.proofs.Placing.{adds-as, all-of, size-of, within}
-use Rattle.lister.proofs.Calling.{has-room, no-room}
+use Rattle.lister.proofs.Calling.{within-room, too-long}
 use borrow.Author.Needs.{needs}
 use Rattle.lister.proofs.Listing.end.Statement.{statement}
 use Rattle.lister.proofs.Listing.end.Tie as tie
@@ -34,7 +34,7 @@ returns c =
     let p = c .before .before .before .before .before .before .put-end in
     let g = c .before .before .before .before .before .before .before .before .before .before .before .args in
     let added = adds-as (p .ensures) (ap (λ (stops : Bool). endText stops (g .self .count)) (c .before .before .before .before .before .before .before .before .stops-at .ensures)) in
-    has-room (g .self) (g .rest .now) (g .output .now) (p .result) _ (all-of added) (size-of added) (sym (k .ensures .0) ∙ c .if1 .taken) _ (k .ensures .1)
+    within-room (g .self) (g .rest .now) (g .output .now) (p .result) _ (all-of added) (size-of added) (sym (k .ensures .0) ∙ c .if1 .taken) _ (k .ensures .1)
 
 same-length-2 : tie.Need-same-length-2
 same-length-2 c = search needs
@@ -45,7 +45,7 @@ returns-2 c =
     let p = c .before .before .before .before .before .before .put-end in
     let g = c .before .before .before .before .before .before .before .before .before .before .before .args in
     let added = adds-as (p .ensures) (ap (λ (stops : Bool). endText stops (g .self .count)) (c .before .before .before .before .before .before .before .before .stops-at .ensures)) in
-    no-room (g .self) (g .rest .now) (g .output .now) (p .result) _ (all-of added) (size-of added) (sym (k .ensures .0) ∙ c .if1 .left) _ (k .ensures .1)
+    too-long (g .self) (g .rest .now) (g .output .now) (p .result) _ (all-of added) (size-of added) (sym (k .ensures .0) ∙ c .if1 .left) _ (k .ensures .1)
 
 pub end-spec : {M : Type 1} → statement M
 end-spec =
