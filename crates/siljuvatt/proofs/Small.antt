@@ -2,7 +2,7 @@
 use Prim.Native.Nat.{ℕ, zero, suc, _+_, _≤_, _<_}
 use mathlib.Core.Path.{_≡_, refl, sym, ap}
 use mathlib.Core.Bool.{Bool, true, false, cond}
-use mathlib.Core.List.{List, [], _∷_}
+use mathlib.Core.List.{List, [], _∷_, map}
 use native.Mathlib.Omega.{arith}
 use lib.Dec.{leb, ltb, eqb}
 use lib.ListN.{length, getD, set, replicate, length-replicate}
@@ -14,10 +14,11 @@ use Rattle.format.specs.declared.Fields.the-variants as fields
 use Rattle.format.specs.declared.Flag.{Flag}
 use Rattle.format.specs.declared.Flag.the-variants.{Middle, Start, End, Single}
 use Rattle.format.specs.declared.Refusal.{Refusal}
-use Rattle.format.specs.declared.Refusal.the-variants.{Length, Form, Remote, Count, Piece, Orphan, Step, Long, Field, Size, Index, Room, Store, Taken, Full, Closed, NoPacket, Busy, Idle, NotAwaited, State}
+use Rattle.format.specs.declared.Refusal.the-variants.{Orphan, Step, Long, Field, Size, Idle, State}
 use Rattle.format.specs.Formats.{packetLimit, pieceSize, formatOf, inRange}
 use Rattle.format.specs.Refusals.{Result, value, refused, number, Check, check, guarded, checkedThen}
 use Rattle.format.specs.Tests.{allTrue, allAfter}
+use Rattle.format.proofs.Numbers.{numbers, each-number}
 use Rattle.format.proofs.Checks.{Passed, passed}
 use Rattle.format.proofs.Limits.{five-bytes, most-bytes}
 use Rattle.format.proofs.Tests.{each, tests}
@@ -25,7 +26,7 @@ use Rattle.frame.specs.Judge.{Frame, Judged, judge}
 use Rattle.frame.specs.Image.{imageOf}
 use Rattle.frame.proofs.Judged.{sound-image, by-judging}
 use Rattle.packet.specs.Split.{countOf, piece, pieces}
-use Rattle.format.specs.Outputs.{answer}
+use Rattle.format.specs.Outputs.{fitting, answer}
 use Rattle.packet.specs.Send.{pieceCount, send}
 use Rattle.packet.specs.Claims.{Splitting, IsSplit}
 use Rattle.packet.proofs.Pieces.{splitting}
@@ -36,7 +37,6 @@ use Rattle.stream.proofs.Cases.{while-idle, while-done, while-collecting}
 use Rattle.slot.specs.declared.Key.{Key}
 use Rattle.slot.specs.Slots.{closedSlot, openSlot, isClosed, hasKey, place}
 use Rattle.slot.specs.Sound.{fits}
-use Rattle.filter.specs.Filters.{eitherAccepts, rowPair}
 use Rattle.station.specs.declared.Station.{Station}
 use Rattle.station.specs.Receive.{After, judgedAs, letIn, stepAt, deliver, receive}
 use Rattle.station.specs.Open as handing
@@ -59,33 +59,22 @@ use Rattle.master_bytes.specs.Calls as masters
 use Rattle.watch.specs.Watching as watching
 use Rattle.watch_bytes.specs.States as watches
 use Rattle.station_bytes.specs.States.{formatIn}
-use Rattle.siljuvatt.specs.Calls.{countIn, newIn, rowIn}
+use Rattle.siljuvatt.specs.Calls.{countIn, newIn}
 use Rattle.siljuvatt.specs.Claims.{Within, UpTo, LengthUpTo, BusUpTo, Small}
 
 -- ---- a guarded result
 
-a-refusal : (name : Refusal) → (1 ≤ number name) × (number name ≤ 21)
-a-refusal Length = omega arith
-a-refusal Form = omega arith
-a-refusal Remote = omega arith
-a-refusal Count = omega arith
-a-refusal Piece = omega arith
-a-refusal Orphan = omega arith
-a-refusal Step = omega arith
-a-refusal Long = omega arith
-a-refusal Field = omega arith
-a-refusal Size = omega arith
-a-refusal Index = omega arith
-a-refusal Room = omega arith
-a-refusal Store = omega arith
-a-refusal Taken = omega arith
-a-refusal Full = omega arith
-a-refusal Closed = omega arith
-a-refusal NoPacket = omega arith
-a-refusal Busy = omega arith
-a-refusal Idle = omega arith
-a-refusal NotAwaited = omega arith
-a-refusal State = omega arith
+abbrev aByte : ℕ → Bool
+aByte n = allTrue (leb 1 n ∷ leb n 255 ∷ [])
+
+all-bytes : allTrue (map aByte numbers) ≡ true
+unfolding allTrue allAfter
+all-bytes = refl
+
+a-refusal : (name : Refusal) → (1 ≤ number name) × (number name ≤ 255)
+a-refusal name =
+    let tests = each (leb 1 (number name) ∷ leb (number name) 255 ∷ []) (each-number aByte all-bytes name) in
+    (leb-true _ _ (tests .0), leb-true _ _ (tests .1 .0))
 
 -- its value where every check holds, or a refusal
 by-checks : {A : Type 0} (P : Result A → Type 0) (list : List Check) (x : A) → (Passed list → P (value x))
@@ -99,11 +88,15 @@ within : {A : Type 0} (Holds : A → Type 0) (list : List Check) (x : A) → (Pa
 within Holds list x give = by-checks (Within Holds) list x give a-refusal
 
 -- the same before a result of its own
-then-within : {A : Type 0} (Holds : A → Type 0) (list : List Check) (r : Result A) → Within Holds r → Within Holds (checkedThen list r)
+by-checks-then : {A : Type 0} (P : Result A → Type 0) (list : List Check) (r : Result A) → (Passed list → P r)
+    → ((name : Refusal) → P (refused (number name))) → P (checkedThen list r)
 unfolding checkedThen
-then-within Holds [] r h = h
-then-within Holds (check name true ∷ rest) r h = then-within Holds rest r h
-then-within Holds (check name false ∷ rest) r h = a-refusal name
+by-checks-then P [] r give refuse = give tt
+by-checks-then P (check name true ∷ rest) r give refuse = by-checks-then P rest r (λ p. give (refl, p)) refuse
+by-checks-then P (check name false ∷ rest) r give refuse = refuse name
+
+then-within : {A : Type 0} (Holds : A → Type 0) (list : List Check) (r : Result A) → Within Holds r → Within Holds (checkedThen list r)
+then-within Holds list r h = by-checks-then (Within Holds) list r (λ p. h) a-refusal
 
 -- either of two
 either : {A : Type 0} (P : A → Type 0) (b : Bool) (x y : A) → P x → P y → P (cond b x y)
@@ -159,10 +152,11 @@ unfolding countIn
 counts format size = either (UpTo 256) (leb format 1) _ _ (count-small (formatIn format) size) (a-refusal Field)
 
 image-of : (fs : Fields) (bytes : List ℕ) (k room : ℕ) → Within (λ l. length l ≤ 13) (send fs bytes k room)
-unfolding send
+unfolding send fitting
 image-of fs bytes k room =
-    within (λ (l : List ℕ). length l ≤ 13) _ _
-    (λ p. image-small fs bytes (p .0) (leb-true _ _ (p .1 .0)) k (ltb-true _ _ (p .1 .1 .0)))
+    by-checks-then (Within (λ (l : List ℕ). length l ≤ 13)) _ _
+    (λ p. within (λ (l : List ℕ). length l ≤ 13) _ _ (λ q. image-small fs bytes (p .0) (leb-true _ _ (p .1 .0)) k (ltb-true _ _ (p .1 .1 .0))))
+    a-refusal
 
 writes : (fs : Fields) (bytes : List ℕ) (k room : ℕ) → UpTo 13 (answer (send fs bytes k room))
 writes fs bytes k room = lengths 13 (send fs bytes k room) (image-of fs bytes k room)
@@ -175,8 +169,8 @@ Hands most h = UpTo most (h .answer)
 new : (state : List ℕ) (format : ℕ) → UpTo 0 (newIn state format .answer)
 unfolding newIn renewed
 new state format =
-    either (Hands 0) (eqb (length state) 129) _ _
-    (either (Hands 0) (leb format 1) _ _ (either (Hands 0) (eqb (length state) 129) _ _ (omega arith) (a-refusal State)) (a-refusal Field))
+    either (Hands 0) (eqb (length state) 130) _ _
+    (either (Hands 0) (leb format 1) _ _ (either (Hands 0) (eqb (length state) 130) _ _ (omega arith) (a-refusal State)) (a-refusal Field))
     (a-refusal State)
 
 opens : (state : List ℕ) (key : Key) → UpTo 15 (openIn state key .answer)
@@ -270,13 +264,6 @@ reads state store slot =
     lengths 2048 (readIn state store slot)
     (either (Within (λ (l : List ℕ). length l ≤ 2048)) (isState state) _ _ (read-small (stationIn state) store slot) (a-refusal State))
 
--- ---- a row
-
-accepts : (row : List ℕ) (id : ℕ) → UpTo 1 (rowIn row id)
-unfolding rowIn
-accepts row id =
-    within (λ (n : ℕ). n ≤ 1) _ _ (λ p. either (λ (n : ℕ). n ≤ 1) (eitherAccepts (rowPair row) id) _ _ (omega arith) (omega arith))
-
 -- ---- a master
 
 abbrev Tells : masters.MasterBytesAfter Told → Type 0
@@ -285,7 +272,7 @@ Tells h = Within (BusUpTo 1) (h .answer)
 new-master : (state : List ℕ) → UpTo 0 (masters.renew state .answer)
 unfolding masters.renew
 new-master state =
-    either (λ (h : masters.MasterBytesAfter ℕ). UpTo 0 (h .answer)) (eqb (length state) 67) _ _ (omega arith) (a-refusal State)
+    either (λ (h : masters.MasterBytesAfter ℕ). UpTo 0 (h .answer)) (eqb (length state) 68) _ _ (omega arith) (a-refusal State)
 
 abbrev Gives : Master → Result exchanges.Step → Type 0
 Gives master r = Within (BusUpTo 1) (exchanges.handedBack master r .answer)
@@ -340,7 +327,8 @@ on-watch most state given h = either (λ (g : watches.WatchBytesAfter). UpTo mos
 
 new-watch : (state : List ℕ) (time : ℕ) → UpTo 0 (watches.renew state time .answer)
 unfolding watches.renew
-new-watch state time = on-watch 0 state _ (omega arith)
+new-watch state time =
+    either (λ (g : watches.WatchBytesAfter). UpTo 0 (g .answer)) (eqb (length state) 9) _ _ (omega arith) (a-refusal State)
 
 hears : (state : List ℕ) (bus time : ℕ) → UpTo 1 (watches.hearing state bus time .answer)
 unfolding watches.hearing watching.hearing
@@ -368,7 +356,6 @@ small =
       closes = closes;
       receives = receives;
       reads = reads;
-      accepts = accepts;
       new-master = new-master;
       starts = starts;
       replies = replies;

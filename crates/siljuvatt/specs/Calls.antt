@@ -1,14 +1,13 @@
--- The calls of the library that add something to the definitions of the crates below: a format handed in as a number, bytes of a row, and
--- where a packet begins. All others are those definitions, with their answers as numbers (Answers).
+-- The calls of the library that add something to the definitions of the crates below: a format handed in as a number, and where
+-- a packet begins. All others are those definitions, with their answers as numbers (Answers).
 use Prim.Native.Nat.{ℕ, _*_}
 use mathlib.Core.Bool.{cond}
-use mathlib.Core.List.{List, [], _∷_}
+use mathlib.Core.List.{List}
 use lib.Dec.{leb, eqb}
 use lib.ListN.{length}
 use Rattle.format.specs.declared.Refusal.the-variants.{Field, State}
-use Rattle.format.specs.Refusals.{Result, value, refused, number, check, guarded}
+use Rattle.format.specs.Refusals.{Result, value, refused, number}
 use Rattle.packet.specs.Send.{pieceCount}
-use Rattle.filter.specs.Filters.{eitherAccepts, rowPair}
 use Rattle.station_bytes.specs.Calls.{StateAfter, renewed}
 use Rattle.station_bytes.specs.States.{formatIn}
 
@@ -22,7 +21,7 @@ unchanged state answer = record { answer = answer; state = state }
 -- STATE: another number of bytes. FIELD: a format that is neither
 unfoldable pub newIn : List ℕ → (format : ℕ) → StateAfter
 newIn state format =
-    cond (eqb (length state) 129) (cond (leb format 1) (renewed state (formatIn format)) (unchanged state (refused (number Field))))
+    cond (eqb (length state) 130) (cond (leb format 1) (renewed state (formatIn format)) (unchanged state (refused (number Field))))
     (unchanged state (refused (number State)))
 
 -- "Reading a done slot returns that part of the store itself, the head of the area": where in the store it begins; a refusal leaves the
@@ -30,7 +29,3 @@ newIn state format =
 abbrev pub startAfter : Result (List ℕ) → (slot start : ℕ) → ℕ
 startAfter (value packet) slot start = 2048 * slot
 startAfter (refused n) slot start = start
-
--- 1 if the pair of a row of Table A.1 accepts, else 0. FIELD: a row is 8 bytes
-unfoldable pub rowIn : List ℕ → (id : ℕ) → Result ℕ
-rowIn row id = guarded (check Field (eqb (length row) 8) ∷ []) (cond (eitherAccepts (rowPair row) id) 1 0)

@@ -6,6 +6,7 @@ use mathlib.Core.List.{List}
 use lib.ListN.{length, take, drop}
 use Rattle.format.specs.declared.Fields.{Fields}
 use Rattle.format.specs.Refusals.{Result, value, refused}
+use Rattle.format.specs.Outputs.{answer}
 use Rattle.packet.specs.Send as sending
 use Rattle.stream.specs.Answers.{Reply, packet, kept, filtered}
 use Rattle.slot.specs.declared.Key.{Key}
@@ -14,13 +15,13 @@ use Rattle.station_bytes.specs.Calls.{receiveIn, openIn, closeIn, readIn}
 use Rattle.master.specs.Exchanges.{Told, send, done, gaveUp}
 use Rattle.master_bytes.specs.Calls as masters
 use Rattle.watch_bytes.specs.States as watches
-use Rattle.siljuvatt.specs.Answers.{outcomeWord, replyWord, toldWord}
-use Rattle.siljuvatt.specs.Calls.{countIn, newIn, startAfter, rowIn}
+use Rattle.siljuvatt.specs.Answers.{outcomeWord, replyWord, toldWord, resetWord}
+use Rattle.siljuvatt.specs.Calls.{countIn, newIn, startAfter}
 
--- a value for which that holds, or one of the 21 refusals
+-- a value for which that holds, or a refusal, whose number is a byte and not 0
 abbrev pub Within : {A : Type 0} → (A → Type 0) → Result A → Type 0
 Within Holds (value x) = Holds x
-Within Holds (refused n) = (1 ≤ n) × (n ≤ 21)
+Within Holds (refused n) = (1 ≤ n) × (n ≤ 255)
 
 -- the number that is answered is at most that
 abbrev pub UpTo : ℕ → Result ℕ → Type 0
@@ -43,20 +44,19 @@ pub record OneWord : Type 0 where
   pub outcomes : (a b : Result ℕ) → UpTo 65535 a → UpTo 65535 b → outcomeWord a ≡ outcomeWord b → a ≡ b
   pub replies : (a b : Result Reply) → Within (LengthUpTo 65535) a → Within (LengthUpTo 65535) b → replyWord a ≡ replyWord b → a ≡ b
   pub told : (a b : Result Told) → Within (BusUpTo 65535) a → Within (BusUpTo 65535) b → toldWord a ≡ toldWord b → a ≡ b
+  pub resets : (a b : Result ℕ) → UpTo 3 a → UpTo 3 b → resetWord a ≡ resetWord b → a ≡ b
 
 -- what each call answers, whatever it is handed, is far below that
 pub record Small : Type 0 where
   -- at most 256 pieces; images of at most 13 bytes
   pub counts : (format size : ℕ) → UpTo 256 (countIn format size)
-  pub writes : (fields : Fields) (bytes : List ℕ) (k room : ℕ) → UpTo 13 (sending.answer (sending.send fields bytes k room))
+  pub writes : (fields : Fields) (bytes : List ℕ) (k room : ℕ) → UpTo 13 (answer (sending.send fields bytes k room))
   -- a station: 0 for a new one, slots 0 to 15, packets of at most 2,048 bytes
   pub new : (state : List ℕ) (format : ℕ) → UpTo 0 (newIn state format .answer)
   pub opens : (state : List ℕ) (key : Key) → UpTo 15 (openIn state key .answer)
   pub closes : (state : List ℕ) (slot : ℕ) → UpTo 15 (closeIn state slot .answer)
   pub receives : (state store : List ℕ) (bus : ℕ) (image : List ℕ) → Within (LengthUpTo 2048) (receiveIn state store bus image .answer)
   pub reads : (state store : List ℕ) (slot : ℕ) → UpTo 2048 (lengthOf (readIn state store slot))
-  -- a row: 1 or 0
-  pub accepts : (row : List ℕ) (id : ℕ) → UpTo 1 (rowIn row id)
   -- a master: 0 for a new one, buses 0 and 1
   pub new-master : (state : List ℕ) → UpTo 0 (masters.renew state .answer)
   pub starts : (state : List ℕ) (kind node : ℕ) → Within (BusUpTo 1) (masters.starting state kind node .answer)

@@ -17,6 +17,7 @@ ghost use lib.ListN.{length, getD};
 ghost use Rattle.format.specs.Refusals as outcomes;
 ghost use Rattle.stream.specs.Answers as replies;
 ghost use Rattle.master.specs.Exchanges as exchanges;
+ghost use Rattle.format.specs.Outputs.{answer, outputAfter};
 ghost use Rattle.packet.specs.Send as sending;
 ghost use Rattle.filter.specs.Filters.{accepts, eitherAccepts, rowPair};
 ghost use Rattle.station.specs.Read.{lengthOf};
@@ -184,8 +185,8 @@ pub extern "C" fn siljuvatt_write_piece(
     k: usize,
     output: &mut [u8],
 ) -> u32
-    ensures { λ r. ⌜ r ≡ outcomeWord (sending.answer (sending.send (fieldsFrom format (now (fields .entry))) (now (packet .entry)) k (length (now (output .entry))))) ⌝ }
-    ensures { λ _. ⌜ now (output .exit) ≡ sending.outputAfter (sending.send (fieldsFrom format (now (fields .entry))) (now (packet .entry)) k (length (now (output .entry)))) (now (output .entry)) ⌝ }
+    ensures { λ r. ⌜ r ≡ outcomeWord (answer (sending.send (fieldsFrom format (now (fields .entry))) (now (packet .entry)) k (length (now (output .entry))))) ⌝ }
+    ensures { λ _. ⌜ now (output .exit) ≡ outputAfter (sending.send (fieldsFrom format (now (fields .entry))) (now (packet .entry)) k (length (now (output .entry)))) (now (output .entry)) ⌝ }
 {
     outcome_word(write_piece(fields_of(format, fields), packet, k, output))
 }
