@@ -1,7 +1,7 @@
 -- Document 01, "Streams and receiving", fourth paragraph: "A station is sound when open keys differ and are in range, h when
 -- collecting is a multiple of the piece size (8 to 2,048 extended, 7 to 1,785 standard), and h when done is within the format's
 -- limit." And it has 16 slots.
-use Prim.Native.Nat.{ℕ, _%_}
+use Prim.Native.Nat.{ℕ, _-_, _%_}
 use mathlib.Core.Bool.{Bool, true, false, not, _||_}
 use mathlib.Core.List.{List, [], _∷_}
 use lib.Dec.{leb, eqb}
@@ -30,10 +30,10 @@ sameFormat Standard Extended = false
 unfoldable pub keyInRange : Format → Key → Bool
 keyInRange format key = allTrue (leb (key .bus) 1 ∷ sameFormat format (formatOf (key .fields)) ∷ inRange (key .fields) ∷ [])
 
--- the most bytes that a sound stream holds while collecting
+-- the most bytes that a sound stream holds while collecting: in standard a piece less than a packet
 abbrev pub mostHeld : Format → ℕ
-mostHeld Extended = 2048
-mostHeld Standard = 1785
+mostHeld Extended = packetLimit Extended
+mostHeld Standard = packetLimit Standard - pieceSize Standard
 
 unfoldable pub fits : Format → Progress → Bool
 fits format Idle = true

@@ -75,8 +75,17 @@ pub fn key_in_range(format: Format, key: Key) -> bool
     }
 }
 
-// Whether so many bytes can be held. A standard piece of number 255 is an end, so that no more
-// than 255 pieces, 1,785 bytes, are held while collecting.
+// The most bytes that are held while collecting. A standard piece of number 255 is an end, so that
+// no more than 255 pieces are.
+pub struct MostHeld;
+
+impl MostHeld {
+    pub const EXTENDED: usize = Extended::PACKET_LIMIT;
+
+    pub const STANDARD: usize = Standard::PACKET_LIMIT - Standard::PIECE_SIZE;
+}
+
+// Whether so many bytes can be held.
 fn fits(format: Format, progress: Progress) -> bool
     ensures { λ r. ⌜ r ≡ fits format progress ⌝ }
 {
@@ -88,10 +97,12 @@ fn fits(format: Format, progress: Progress) -> bool
                 Format::Extended => {
                     (n % Extended::PIECE_SIZE == 0)
                         & (Extended::PIECE_SIZE <= n)
-                        & (n <= Extended::PACKET_LIMIT)
+                        & (n <= MostHeld::EXTENDED)
                 }
                 Format::Standard => {
-                    (n % Standard::PIECE_SIZE == 0) & (Standard::PIECE_SIZE <= n) & (n <= 1785)
+                    (n % Standard::PIECE_SIZE == 0)
+                        & (Standard::PIECE_SIZE <= n)
+                        & (n <= MostHeld::STANDARD)
                 }
             }
         }

@@ -1,13 +1,16 @@
 // A station whose state is in lent bytes: sixteen records of eight bytes, the format, the layout's number. A
 // record is two numbers of 32 bits: the key's and the progress's.
 use copying::copy_in;
+use format::Extended;
 use format::Format;
 use format::Outcome;
 use format::Refusal;
+use format::Standard;
 use frame::Head;
 use frame::Verdict;
 use frame::judge;
 use slot::Key;
+use slot::MostHeld;
 use slot::clash;
 use slot::find_key;
 use slot::key_in_range;
@@ -103,17 +106,23 @@ fn progress_fits(format: Format, number: u32) -> bool
     ensures { λ r. ⌜ r ≡ progressFits format number ⌝ }
 {
     let kind = number / 65536;
-    let h = number % 65536;
+    let h = (number % 65536) as usize;
     match format {
         Format::Extended => {
             ((kind == 1) & (h == 0))
-                | ((kind == 2) & ((h % 8 == 0) & (8 <= h) & (h <= 2048)))
-                | ((kind == 3) & (h <= 2048))
+                | ((kind == 2)
+                    & ((h % Extended::PIECE_SIZE == 0)
+                        & (Extended::PIECE_SIZE <= h)
+                        & (h <= MostHeld::EXTENDED)))
+                | ((kind == 3) & (h <= Extended::PACKET_LIMIT))
         }
         Format::Standard => {
             ((kind == 1) & (h == 0))
-                | ((kind == 2) & ((h % 7 == 0) & (7 <= h) & (h <= 1785)))
-                | ((kind == 3) & (h <= 1792))
+                | ((kind == 2)
+                    & ((h % Standard::PIECE_SIZE == 0)
+                        & (Standard::PIECE_SIZE <= h)
+                        & (h <= MostHeld::STANDARD)))
+                | ((kind == 3) & (h <= Standard::PACKET_LIMIT))
         }
     }
 }
@@ -289,7 +298,7 @@ pub fn new(state: &mut [u8], format: Format) -> Outcome
     if state.len() != State::SIZE {
         return Outcome::Refused(Refusal::State);
     }
-    let mut bytes = [0u8; 130];
+    let mut bytes = [0u8; State::SIZE];
     bytes[128] = number_of(format);
     bytes[129] = State::LAYOUT;
     copy_in(state, 0, &bytes);

@@ -5,6 +5,9 @@ use borrow.Author.Needs.{needs}
 use Rattle.station_bytes.proofs.progress_fits.Statement.{statement}
 use Rattle.station_bytes.proofs.progress_fits.Tie as tie
 
+cast-h : tie.Need-cast-h
+cast-h c = search needs
+
 enum-told : tie.Need-enum-told
 enum-told c = search needs
 
@@ -18,4 +21,4 @@ returns-2 : tie.Need-returns-2
 returns-2 c = rw (c .enum-told2 .given .1) (progress-fits Standard (c .before .before .args .number))
 
 pub progress-fits-spec : {M : Type 1} → statement M
-progress-fits-spec = tie.close (tie.spec enum-told enum-told-2 returns returns-2)
+progress-fits-spec = tie.close (tie.spec cast-h enum-told enum-told-2 returns returns-2)
