@@ -6,31 +6,39 @@
 #include "siljuvatt.h"
 
 #include <stdio.h>
+#include <stdlib.h>
 #include <string.h>
 
 static int checks;
 static int failures;
 static bool provoked[65536]; /* the numbers of the refusals that a call gave */
 
-/* The first failures are told; a wrong size has thousands. */
-static bool fails(bool holds)
+/* The first failures are told and are enough. */
+static void end_after_many(void)
 {
-    checks++;
-    failures += !holds;
-    return !holds && failures <= 20;
+    if (failures == 20) {
+        printf("%d checks, %d failed, and no more are made\n", checks, failures);
+        exit(1);
+    }
 }
 
 static void same(uint32_t answer, uint32_t expected, const char *call, const char *name, int line)
 {
-    if (fails(answer == expected)) {
+    checks++;
+    if (answer != expected) {
+        failures++;
         printf("line %d: %s is %u and not %s, %u\n", line, call, (unsigned)answer, name, (unsigned)expected);
+        end_after_many();
     }
 }
 
 static void same_text(const char *said, const char *expected, int line)
 {
-    if (fails(strcmp(said, expected) == 0)) {
+    checks++;
+    if (strcmp(said, expected) != 0) {
+        failures++;
         printf("line %d: \"%s\" and not \"%s\"\n", line, said, expected);
+        end_after_many();
     }
 }
 
@@ -122,18 +130,19 @@ static const uint8_t standard[SILJUVATT_STANDARD_FIELDS + 1] = {2, 22, 1};
 #define WRITE(format, fields, count, size, k, output, room) \
     siljuvatt_write_piece(format, fields, count, packet, size, k, output, room)
 
-/* The longest image of all pieces of a packet; each is written with that room, and not with less than its length. */
+/* The longest image of the 256 pieces of a packet; each is written with that room, and not with one byte less. */
 static uint32_t longest(uint8_t format, const uint8_t *fields, size_t count, size_t size, size_t room)
 {
     uint8_t output[64];
     uint32_t pieces = siljuvatt_piece_count(format, size), most = 0;
 
-    for (uint32_t k = 0; k < pieces; k++) {
+    SAME(pieces, 256);
+    for (uint32_t k = 0; k < 256; k++) {
         uint32_t length = WRITE(format, fields, count, size, k, output, room);
         REFUSED(WRITE(format, fields, count, size, k, output, length - 1), SILJUVATT_REFUSAL_ROOM);
         most = length > most ? length : most;
     }
-    REFUSED(WRITE(format, fields, count, size, pieces, output, room), SILJUVATT_REFUSAL_INDEX);
+    REFUSED(WRITE(format, fields, count, size, 256, output, room), SILJUVATT_REFUSAL_INDEX);
     return most;
 }
 
