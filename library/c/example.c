@@ -12,7 +12,7 @@
 #include <stdlib.h>
 #include <string.h>
 
-enum { BUS_A = 0, BUS_B = 1, MOST_PIECES = 8 };
+enum { MOST_PIECES = 8 };
 
 /* A station is bytes of ours, and so is its store. Here they stand for the whole run; a stack or a heap would do. */
 static uint8_t station[SILJUVATT_STATION_SIZE];
@@ -41,13 +41,14 @@ static void expect(bool holds, const char *what)
     }
 }
 
-static const char *name_of(uint32_t refused)
+static bool is(uint32_t answer, enum siljuvatt_refusal refusal)
 {
-    static const char *const names[] = {
-        "none", "LENGTH", "FORM", "REMOTE", "COUNT", "PIECE", "ORPHAN", "STEP", "LONG", "FIELD", "SIZE", "INDEX",
-        "ROOM", "STORE", "TAKEN", "FULL", "CLOSED", "NOPACKET", "BUSY", "IDLE", "NOTAWAITED", "STATE"};
-    uint32_t number = SILJUVATT_NUMBER(refused);
-    return number < sizeof names / sizeof names[0] ? names[number] : "unknown";
+    return SILJUVATT_IS_REFUSED(answer) && SILJUVATT_NUMBER(answer) == (uint32_t)refusal;
+}
+
+static void print_refusal(const char *what, uint32_t answer)
+{
+    printf("%srefused %u %s\n", what, (unsigned)SILJUVATT_NUMBER(answer), siljuvatt_refusal_name(answer));
 }
 
 /* Opens a stream for each board. A key is a bus and fields; slots are given from 0 on. */
@@ -56,16 +57,16 @@ static void open_streams(void)
     uint32_t answer = siljuvatt_station_new(station, sizeof station, SILJUVATT_EXTENDED);
     expect(answer == 0, "a new station");
 
-    answer = siljuvatt_open(station, sizeof station, BUS_A, board_5, sizeof board_5);
+    answer = siljuvatt_open(station, sizeof station, SILJUVATT_BUS_A, board_5, sizeof board_5);
     expect(answer == 0, "board 5 has slot 0");
-    answer = siljuvatt_open(station, sizeof station, BUS_B, board_6, sizeof board_6);
+    answer = siljuvatt_open(station, sizeof station, SILJUVATT_BUS_B, board_6, sizeof board_6);
     expect(answer == 1, "board 6 has slot 1");
     printf("open: board 5 on bus A in slot 0, board 6 on bus B in slot 1\n");
 
     /* The same key again is refused, and nothing has changed. */
-    answer = siljuvatt_open(station, sizeof station, BUS_B, board_6, sizeof board_6);
-    expect(SILJUVATT_IS_REFUSED(answer) && SILJUVATT_NUMBER(answer) == SILJUVATT_TAKEN, "the key is taken");
-    printf("open: board 6 again is refused %u %s\n", (unsigned)SILJUVATT_NUMBER(answer), name_of(answer));
+    answer = siljuvatt_open(station, sizeof station, SILJUVATT_BUS_B, board_6, sizeof board_6);
+    expect(is(answer, SILJUVATT_REFUSAL_TAKEN), "the key is taken");
+    print_refusal("open: board 6 again is ", answer);
 }
 
 /* Splits a packet: how many pieces, then the image of each, written to memory of ours. */
@@ -91,9 +92,9 @@ static uint32_t hear(uint8_t bus, const struct pieces *pieces, uint32_t k)
 {
     uint32_t answer = siljuvatt_receive(station, sizeof station, store, sizeof store, bus, pieces->images[k],
                                         pieces->lengths[k]);
-    printf("bus %c, piece %u: ", bus == BUS_A ? 'A' : 'B', (unsigned)k);
+    printf("bus %c, piece %u: ", bus == SILJUVATT_BUS_A ? 'A' : 'B', (unsigned)k);
     if (SILJUVATT_IS_REFUSED(answer)) {
-        printf("refused %u %s\n", (unsigned)SILJUVATT_NUMBER(answer), name_of(answer));
+        print_refusal("", answer);
         return answer;
     }
     if (SILJUVATT_KIND(answer) == SILJUVATT_PACKET) {
@@ -122,10 +123,10 @@ static void receive_both(const struct pieces *five, const struct pieces *six)
     for (uint32_t k = 0; k < six->count; k++) {
         uint32_t answer;
         if (k < five->count) {
-            answer = hear(BUS_A, five, k);
+            answer = hear(SILJUVATT_BUS_A, five, k);
             expect(SILJUVATT_KIND(answer) == (k + 1 < five->count ? SILJUVATT_KEPT : SILJUVATT_PACKET), "of board 5");
         }
-        answer = hear(BUS_B, six, k);
+        answer = hear(SILJUVATT_BUS_B, six, k);
         expect(SILJUVATT_KIND(answer) == (k + 1 < six->count ? SILJUVATT_KEPT : SILJUVATT_PACKET), "of board 6");
     }
     read_packet(0, serial_5);
@@ -135,28 +136,28 @@ static void receive_both(const struct pieces *five, const struct pieces *six)
 /* Piece 1 of board 6 is lost: piece 2 is refused, and so is what follows, up to the next start. */
 static void lose_a_piece(const struct pieces *six)
 {
-    uint32_t answer = hear(BUS_B, six, 0);
+    uint32_t answer = hear(SILJUVATT_BUS_B, six, 0);
     expect(SILJUVATT_KIND(answer) == SILJUVATT_KEPT && !SILJUVATT_BROKE(answer), "a start after a whole packet");
-    answer = hear(BUS_B, six, 2);
-    expect(SILJUVATT_IS_REFUSED(answer) && SILJUVATT_NUMBER(answer) == SILJUVATT_STEP, "1 is awaited");
-    answer = hear(BUS_B, six, 3);
-    expect(SILJUVATT_IS_REFUSED(answer) && SILJUVATT_NUMBER(answer) == SILJUVATT_ORPHAN, "none is collected");
+    answer = hear(SILJUVATT_BUS_B, six, 2);
+    expect(is(answer, SILJUVATT_REFUSAL_STEP), "1 is awaited");
+    answer = hear(SILJUVATT_BUS_B, six, 3);
+    expect(is(answer, SILJUVATT_REFUSAL_ORPHAN), "none is collected");
 
     size_t start = 0;
     answer = siljuvatt_read(station, sizeof station, store, sizeof store, 1, &start);
-    expect(SILJUVATT_IS_REFUSED(answer) && SILJUVATT_NUMBER(answer) == SILJUVATT_NOPACKET, "no packet of board 6");
-    printf("slot 1: refused %u %s\n", (unsigned)SILJUVATT_NUMBER(answer), name_of(answer));
+    expect(is(answer, SILJUVATT_REFUSAL_NOPACKET), "no packet of board 6");
+    print_refusal("slot 1: ", answer);
     read_packet(0, serial_5); /* board 5's is as it was */
 }
 
 /* A start before the end drops the packet that was begun; the new one is whole. */
 static void begin_again(const struct pieces *six)
 {
-    expect(SILJUVATT_KIND(hear(BUS_B, six, 0)) == SILJUVATT_KEPT, "a start");
-    uint32_t answer = hear(BUS_B, six, 0);
+    expect(SILJUVATT_KIND(hear(SILJUVATT_BUS_B, six, 0)) == SILJUVATT_KEPT, "a start");
+    uint32_t answer = hear(SILJUVATT_BUS_B, six, 0);
     expect(SILJUVATT_KIND(answer) == SILJUVATT_KEPT && SILJUVATT_BROKE(answer), "an older packet is dropped");
     for (uint32_t k = 1; k < six->count; k++) {
-        expect(!SILJUVATT_IS_REFUSED(hear(BUS_B, six, k)), "the new packet's pieces");
+        expect(!SILJUVATT_IS_REFUSED(hear(SILJUVATT_BUS_B, six, k)), "the new packet's pieces");
     }
     read_packet(1, serial_6);
 }
@@ -165,7 +166,7 @@ static void expect_send(uint32_t answer, uint8_t bus)
 {
     expect(!SILJUVATT_IS_REFUSED(answer) && SILJUVATT_KIND(answer) == SILJUVATT_SEND, "to send");
     expect(SILJUVATT_NUMBER(answer) == bus, "on that bus");
-    printf("send on bus %c\n", bus == BUS_A ? 'A' : 'B');
+    printf("send on bus %c\n", bus == SILJUVATT_BUS_A ? 'A' : 'B');
 }
 
 /* A command is sent twice on the chosen bus and then once on the other, which stays chosen. */
@@ -176,22 +177,22 @@ static void command(void)
     expect(siljuvatt_master_new(master, sizeof master) == 0, "a new master");
 
     printf("command to node %d: ", node);
-    expect_send(siljuvatt_master_start(master, sizeof master, SILJUVATT_COMMAND, node), BUS_A);
+    expect_send(siljuvatt_master_start(master, sizeof master, SILJUVATT_COMMAND, node), SILJUVATT_BUS_A);
     printf("timeout: ");
-    expect_send(siljuvatt_master_timeout(master, sizeof master), BUS_A);
+    expect_send(siljuvatt_master_timeout(master, sizeof master), SILJUVATT_BUS_A);
     printf("timeout: ");
-    expect_send(siljuvatt_master_timeout(master, sizeof master), BUS_B);
+    expect_send(siljuvatt_master_timeout(master, sizeof master), SILJUVATT_BUS_B);
 
     /* A late reply to an earlier send does not count. */
-    uint32_t answer = siljuvatt_master_reply(master, sizeof master, BUS_A, node, answer_function);
-    expect(SILJUVATT_IS_REFUSED(answer) && SILJUVATT_NUMBER(answer) == SILJUVATT_NOTAWAITED, "a reply on bus A");
-    printf("reply on bus A: refused %u %s\n", (unsigned)SILJUVATT_NUMBER(answer), name_of(answer));
-    answer = siljuvatt_master_reply(master, sizeof master, BUS_B, node, answer_function);
+    uint32_t answer = siljuvatt_master_reply(master, sizeof master, SILJUVATT_BUS_A, node, answer_function);
+    expect(is(answer, SILJUVATT_REFUSAL_NOTAWAITED), "a reply on bus A");
+    print_refusal("reply on bus A: ", answer);
+    answer = siljuvatt_master_reply(master, sizeof master, SILJUVATT_BUS_B, node, answer_function);
     expect(SILJUVATT_KIND(answer) == SILJUVATT_DONE && !SILJUVATT_IS_REFUSED(answer), "a reply on bus B");
     printf("reply on bus B: done\n");
 
     printf("poll of node %d: ", node);
-    expect_send(siljuvatt_master_start(master, sizeof master, SILJUVATT_POLL, node), BUS_B);
+    expect_send(siljuvatt_master_start(master, sizeof master, SILJUVATT_POLL, node), SILJUVATT_BUS_B);
 }
 
 /* A bus that was silent for 16,000 ms is to be reset. The count may run over between two times. */
@@ -200,10 +201,13 @@ static void silence(void)
     const uint32_t begin = UINT32_C(4294967000);
     uint8_t watch[SILJUVATT_WATCH_SIZE];
     expect(siljuvatt_watch_new(watch, sizeof watch, begin) == 0, "a new watch");
-    expect(siljuvatt_watch_heard(watch, sizeof watch, BUS_B, begin + 9000) == BUS_B, "bus B is heard");
-    expect(siljuvatt_watch_check(watch, sizeof watch, begin + 15999) == 0, "no bus is silent");
+    uint32_t answer = siljuvatt_watch_heard(watch, sizeof watch, SILJUVATT_BUS_B, begin + 9000);
+    expect(answer == SILJUVATT_BUS_B, "bus B is heard");
+    answer = siljuvatt_watch_check(watch, sizeof watch, begin + SILJUVATT_SILENCE - 1);
+    expect(answer == 0, "no bus is silent");
     printf("watch: after 15,999 ms no bus is to be reset\n");
-    expect(siljuvatt_watch_check(watch, sizeof watch, begin + 16000) == 1, "bus A is silent");
+    answer = siljuvatt_watch_check(watch, sizeof watch, begin + SILJUVATT_SILENCE);
+    expect(SILJUVATT_RESET_A(answer) && !SILJUVATT_RESET_B(answer), "bus A is silent");
     printf("watch: after 16,000 ms bus A is to be reset\n");
 }
 

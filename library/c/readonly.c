@@ -141,11 +141,11 @@ static const struct format extended = {
     {6, {0x81, 0x45, 0x00, 0x82, 0x10, 9}},
     5,
     {
-        {SILJUVATT_LENGTH, {4, {0x81, 0x45, 0x00, 0xC0}}},
-        {SILJUVATT_FORM, {6, {0x91, 0x45, 0x00, 0xC0, 0x10, 0x07}}},
-        {SILJUVATT_REMOTE, {6, {0xC1, 0x45, 0x00, 0xC0, 0x10, 0x07}}},
-        {SILJUVATT_COUNT, {6, {0x82, 0x45, 0x00, 0xC0, 0x10, 0x07}}},
-        {SILJUVATT_PIECE, {6, {0x81, 0x45, 0x00, 0xC1, 0x10, 0x07}}},
+        {SILJUVATT_REFUSAL_LENGTH, {4, {0x81, 0x45, 0x00, 0xC0}}},
+        {SILJUVATT_REFUSAL_FORM, {6, {0x91, 0x45, 0x00, 0xC0, 0x10, 0x07}}},
+        {SILJUVATT_REFUSAL_REMOTE, {6, {0xC1, 0x45, 0x00, 0xC0, 0x10, 0x07}}},
+        {SILJUVATT_REFUSAL_COUNT, {6, {0x82, 0x45, 0x00, 0xC0, 0x10, 0x07}}},
+        {SILJUVATT_REFUSAL_PIECE, {6, {0x81, 0x45, 0x00, 0xC1, 0x10, 0x07}}},
     },
 };
 
@@ -160,10 +160,10 @@ static const struct format standard = {
     {4, {0x96, 0xC2, 2, 8}},
     4,
     {
-        {SILJUVATT_LENGTH, {1, {0x96}}},
-        {SILJUVATT_REMOTE, {3, {0x96, 0xF1, 0x07}}},
-        {SILJUVATT_COUNT, {3, {0x96, 0xE2, 0x07}}},
-        {SILJUVATT_PIECE, {4, {0x96, 0xC2, 1, 8}}},
+        {SILJUVATT_REFUSAL_LENGTH, {1, {0x96}}},
+        {SILJUVATT_REFUSAL_REMOTE, {3, {0x96, 0xF1, 0x07}}},
+        {SILJUVATT_REFUSAL_COUNT, {3, {0x96, 0xE2, 0x07}}},
+        {SILJUVATT_REFUSAL_PIECE, {4, {0x96, 0xC2, 1, 8}}},
     },
 };
 
@@ -195,10 +195,10 @@ static void splitting(const struct format *format)
 
 #define WRITE(said, size, k, room) \
     siljuvatt_write_piece(format->number, said, format->fields_length, packet, size, k, output, room)
-    REFUSED(WRITE(format->wrong, 9, 0, room), SILJUVATT_FIELD);
-    REFUSED(WRITE(format->fields, format->limit + 1, 0, room), SILJUVATT_SIZE);
-    REFUSED(WRITE(format->fields, 9, 2, room), SILJUVATT_INDEX);
-    REFUSED(WRITE(format->fields, 9, 0, room - 1), SILJUVATT_ROOM);
+    REFUSED(WRITE(format->wrong, 9, 0, room), SILJUVATT_REFUSAL_FIELD);
+    REFUSED(WRITE(format->fields, format->limit + 1, 0, room), SILJUVATT_REFUSAL_SIZE);
+    REFUSED(WRITE(format->fields, 9, 2, room), SILJUVATT_REFUSAL_INDEX);
+    REFUSED(WRITE(format->fields, 9, 0, room - 1), SILJUVATT_REFUSAL_ROOM);
 #undef WRITE
 }
 
@@ -211,8 +211,9 @@ static void images(const struct format *format)
 {
     size_t i;
 
-    REFUSED(siljuvatt_receive(STATION, store, 9, 0, format->single.bytes, format->single.length), SILJUVATT_STORE);
-    REFUSED(RECEIVE(2, format->single), SILJUVATT_FIELD);
+    REFUSED(siljuvatt_receive(STATION, store, 9, 0, format->single.bytes, format->single.length),
+            SILJUVATT_REFUSAL_STORE);
+    REFUSED(RECEIVE(2, format->single), SILJUVATT_REFUSAL_FIELD);
     for (i = 0; i < format->bad_images; i++) {
         bad_image(format->bad[i]);
     }
@@ -220,15 +221,15 @@ static void images(const struct format *format)
 
 static void orphans(const struct format *format)
 {
-    REFUSED(RECEIVE(0, format->later_middle), SILJUVATT_ORPHAN);
-    REFUSED(RECEIVE(0, format->end), SILJUVATT_ORPHAN);
+    REFUSED(RECEIVE(0, format->later_middle), SILJUVATT_REFUSAL_ORPHAN);
+    REFUSED(RECEIVE(0, format->end), SILJUVATT_REFUSAL_ORPHAN);
 }
 
 /* A start is kept, the image has another number than awaited, and the stream is idle. */
 static void step(const struct format *format, struct image image)
 {
     MADE(RECEIVE(0, format->start), KIND(SILJUVATT_KEPT));
-    MADE_IDLE(RECEIVE(0, image), SILJUVATT_STEP);
+    MADE_IDLE(RECEIVE(0, image), SILJUVATT_REFUSAL_STEP);
     orphans(format);
 }
 
@@ -263,7 +264,7 @@ static void pass_limit(struct image image)
         }
         MADE(RECEIVE(0, piece), KIND(SILJUVATT_KEPT));
     }
-    MADE_IDLE(RECEIVE(0, image), SILJUVATT_LONG);
+    MADE_IDLE(RECEIVE(0, image), SILJUVATT_REFUSAL_LONG);
     orphans(&extended);
 }
 
@@ -285,37 +286,41 @@ static void slots(const struct format *format)
     uint8_t other[SILJUVATT_EXTENDED_FIELDS] = {1, 6, 0, 0, 2};
     uint32_t i;
 
-    REFUSED(OPEN(2, format->fields), SILJUVATT_FIELD);
-    REFUSED(OPEN(0, format->wrong), SILJUVATT_FIELD);
-    REFUSED(OPEN(0, format->fields), SILJUVATT_TAKEN);
-    REFUSED(siljuvatt_close(STATION, 1), SILJUVATT_CLOSED);
-    REFUSED(siljuvatt_close(STATION, 16), SILJUVATT_CLOSED);
-    REFUSED(siljuvatt_read(STATION, STORE, 1, &lent->start), SILJUVATT_CLOSED);
+    REFUSED(OPEN(2, format->fields), SILJUVATT_REFUSAL_FIELD);
+    REFUSED(OPEN(0, format->wrong), SILJUVATT_REFUSAL_FIELD);
+    REFUSED(OPEN(0, format->fields), SILJUVATT_REFUSAL_TAKEN);
+    REFUSED(siljuvatt_close(STATION, 1), SILJUVATT_REFUSAL_CLOSED);
+    REFUSED(siljuvatt_close(STATION, 16), SILJUVATT_REFUSAL_CLOSED);
+    REFUSED(siljuvatt_read(STATION, STORE, 1, &lent->start), SILJUVATT_REFUSAL_CLOSED);
     for (i = 1; i < 16; i++) {
         MADE(OPEN(1, other), i);
         other[1]++;
     }
-    REFUSED(OPEN(1, other), SILJUVATT_FULL);
-    REFUSED(siljuvatt_read(STATION, STORE, 1, &lent->start), SILJUVATT_NOPACKET);
-    REFUSED(siljuvatt_read(STATION, store, 9, 0, &lent->start), SILJUVATT_STORE);
+    REFUSED(OPEN(1, other), SILJUVATT_REFUSAL_FULL);
+    REFUSED(siljuvatt_read(STATION, STORE, 1, &lent->start), SILJUVATT_REFUSAL_NOPACKET);
+    REFUSED(siljuvatt_read(STATION, store, 9, 0, &lent->start), SILJUVATT_REFUSAL_STORE);
 }
 
 static void no_state(const struct format *format)
 {
-    REFUSED(RECEIVE(0, format->single), SILJUVATT_STATE);
-    REFUSED(OPEN(0, format->fields), SILJUVATT_STATE);
-    REFUSED(siljuvatt_close(STATION, 0), SILJUVATT_STATE);
-    REFUSED(siljuvatt_read(STATION, STORE, 0, &lent->start), SILJUVATT_STATE);
+    REFUSED(RECEIVE(0, format->single), SILJUVATT_REFUSAL_STATE);
+    REFUSED(OPEN(0, format->fields), SILJUVATT_REFUSAL_STATE);
+    REFUSED(siljuvatt_close(STATION, 0), SILJUVATT_REFUSAL_STATE);
+    REFUSED(siljuvatt_read(STATION, STORE, 0, &lent->start), SILJUVATT_REFUSAL_STATE);
 }
 
-/* Records that are none, of the format and of no format. */
+/* Another layout, no format, and records that are none. */
 static void unsound(const struct format *format)
 {
-    REFUSED(siljuvatt_station_new(STATION, 2), SILJUVATT_FIELD);
-    REFUSED(siljuvatt_station_new(lent->station, 128, format->number), SILJUVATT_STATE);
-    memset(lent->station, 0xFF, sizeof lent->station - 1);
+    REFUSED(siljuvatt_station_new(STATION, 2), SILJUVATT_REFUSAL_FIELD);
+    REFUSED(siljuvatt_station_new(lent->station, SILJUVATT_STATION_SIZE - 1, format->number), SILJUVATT_REFUSAL_STATE);
+    lent->station[sizeof lent->station - 1] = SILJUVATT_STATION_LAYOUT + 1;
     no_state(format);
-    memset(lent->station, 0xFF, sizeof lent->station);
+    MADE(siljuvatt_station_new(STATION, format->number), 0);
+    lent->station[sizeof lent->station - 2] = 2;
+    no_state(format);
+    MADE(siljuvatt_station_new(STATION, format->number), 0);
+    memset(lent->station, 0xFF, SILJUVATT_SLOTS * 8);
     no_state(format);
 }
 
@@ -334,35 +339,46 @@ static void stations(const struct format *format)
 
 #define MASTER lent->master, sizeof lent->master
 
+static void unsound_master(void)
+{
+    REFUSED(siljuvatt_master_start(MASTER, SILJUVATT_POLL, 22), SILJUVATT_REFUSAL_STATE);
+    REFUSED(siljuvatt_master_reply(MASTER, 0, 22, 4), SILJUVATT_REFUSAL_STATE);
+    REFUSED(siljuvatt_master_timeout(MASTER), SILJUVATT_REFUSAL_STATE);
+}
+
 static void masters(void)
 {
-    REFUSED(siljuvatt_master_new(lent->master, 66), SILJUVATT_STATE);
+    REFUSED(siljuvatt_master_new(lent->master, SILJUVATT_MASTER_SIZE - 1), SILJUVATT_REFUSAL_STATE);
     MADE(siljuvatt_master_new(MASTER), 0);
-    REFUSED(siljuvatt_master_start(MASTER, 4, 22), SILJUVATT_FIELD);
-    REFUSED(siljuvatt_master_start(MASTER, SILJUVATT_POLL, 64), SILJUVATT_FIELD);
-    REFUSED(siljuvatt_master_reply(MASTER, 0, 22, 2), SILJUVATT_IDLE);
-    REFUSED(siljuvatt_master_timeout(MASTER), SILJUVATT_IDLE);
+    REFUSED(siljuvatt_master_start(MASTER, 4, 22), SILJUVATT_REFUSAL_FIELD);
+    REFUSED(siljuvatt_master_start(MASTER, SILJUVATT_POLL, 64), SILJUVATT_REFUSAL_FIELD);
+    REFUSED(siljuvatt_master_reply(MASTER, 0, 22, 2), SILJUVATT_REFUSAL_IDLE);
+    REFUSED(siljuvatt_master_timeout(MASTER), SILJUVATT_REFUSAL_IDLE);
     MADE(siljuvatt_master_start(MASTER, SILJUVATT_COMMAND, 22), KIND(SILJUVATT_SEND));
-    REFUSED(siljuvatt_master_start(MASTER, SILJUVATT_POLL, 22), SILJUVATT_BUSY);
-    REFUSED(siljuvatt_master_reply(MASTER, 2, 22, 4), SILJUVATT_FIELD);
-    REFUSED(siljuvatt_master_reply(MASTER, 1, 22, 4), SILJUVATT_NOTAWAITED);
-    memset(lent->master, 2, sizeof lent->master);
-    REFUSED(siljuvatt_master_start(MASTER, SILJUVATT_POLL, 22), SILJUVATT_STATE);
-    REFUSED(siljuvatt_master_reply(MASTER, 0, 22, 4), SILJUVATT_STATE);
-    REFUSED(siljuvatt_master_timeout(MASTER), SILJUVATT_STATE);
+    REFUSED(siljuvatt_master_start(MASTER, SILJUVATT_POLL, 22), SILJUVATT_REFUSAL_BUSY);
+    REFUSED(siljuvatt_master_reply(MASTER, 2, 22, 4), SILJUVATT_REFUSAL_FIELD);
+    REFUSED(siljuvatt_master_reply(MASTER, 1, 22, 4), SILJUVATT_REFUSAL_NOTAWAITED);
+    lent->master[0] = 2;
+    unsound_master();
+    MADE(siljuvatt_master_new(MASTER), 0);
+    lent->master[sizeof lent->master - 1] = SILJUVATT_MASTER_LAYOUT + 1;
+    unsound_master();
 }
 
 #define WATCH lent->watch, sizeof lent->watch
 
 static void watches(void)
 {
-    REFUSED(siljuvatt_watch_new(lent->watch, 7, 0), SILJUVATT_STATE);
+    REFUSED(siljuvatt_watch_new(lent->watch, SILJUVATT_WATCH_SIZE - 1, 0), SILJUVATT_REFUSAL_STATE);
     MADE(siljuvatt_watch_new(WATCH, 1000), 0);
-    REFUSED(siljuvatt_watch_heard(WATCH, 2, 2000), SILJUVATT_FIELD);
-    REFUSED(siljuvatt_watch_heard(lent->watch, 7, 0, 2000), SILJUVATT_STATE);
-    REFUSED(siljuvatt_watch_check(lent->watch, 9, 2000), SILJUVATT_STATE);
+    REFUSED(siljuvatt_watch_heard(WATCH, 2, 2000), SILJUVATT_REFUSAL_FIELD);
+    REFUSED(siljuvatt_watch_heard(lent->watch, SILJUVATT_WATCH_SIZE - 1, 0, 2000), SILJUVATT_REFUSAL_STATE);
+    REFUSED(siljuvatt_watch_check(lent->watch, SILJUVATT_WATCH_SIZE + 1, 2000), SILJUVATT_REFUSAL_STATE);
     READ_ONLY(siljuvatt_watch_check(WATCH, 16999), 0);
-    MADE(siljuvatt_watch_check(WATCH, 17000), 3);
+    MADE(siljuvatt_watch_check(WATCH, 17000), UINT32_C(3) << 25);
+    lent->watch[sizeof lent->watch - 1] = SILJUVATT_WATCH_LAYOUT + 1;
+    REFUSED(siljuvatt_watch_heard(WATCH, 0, 2000), SILJUVATT_REFUSAL_STATE);
+    REFUSED(siljuvatt_watch_check(WATCH, 40000), SILJUVATT_REFUSAL_STATE);
 }
 
 int main(void)
