@@ -1,25 +1,28 @@
 //! Links libsiljuvatt.a from the folder that SILJUVATT_LIB names, or else from target/staticlib of the repository.
+//!
+//! The archive is needed to link and for nothing else. Where it is not there this script says what to run, and lets
+//! `cargo check`, `cargo clippy` and `cargo doc` go on; what cargo says last where it builds is rustc's word on it.
 
 use std::env;
 use std::path::PathBuf;
-use std::process::exit;
 
 const VARIABLE: &str = "SILJUVATT_LIB";
 const ARCHIVE: &str = "libsiljuvatt.a";
 
 fn main() {
-    println!("cargo:rerun-if-env-changed={VARIABLE}");
     let folder = env::var_os(VARIABLE).map_or_else(default_folder, PathBuf::from);
     let archive = folder.join(ARCHIVE);
     if !archive.is_file() {
-        eprintln!("siljuvatt: {} is not there.", archive.display());
-        eprintln!("Build it by: rt staticlib siljuvatt");
-        eprintln!(
-            "or name the folder that has it, as an absolute path: {VARIABLE}=FOLDER cargo build"
+        let archive = archive.display();
+        println!("cargo:warning={archive} is not there, so nothing can be linked");
+        println!("cargo:warning=build it by: rt staticlib siljuvatt");
+        println!(
+            "cargo:warning=or name its folder, as an absolute path: {VARIABLE}=FOLDER cargo build"
         );
-        exit(1);
     }
+    // A file that is not there counts as changed, so its coming to be is seen.
     println!("cargo:rerun-if-changed={}", archive.display());
+    println!("cargo:rerun-if-env-changed={VARIABLE}");
     println!("cargo:rustc-link-search=native={}", folder.display());
     println!("cargo:rustc-link-lib=static=siljuvatt");
 }

@@ -4,8 +4,13 @@
 //! for its length, and what a call writes to is borrowed by `&mut`, so nothing else that it is given overlaps with it.
 //! The library is proved to end without a panic at every input.
 
+use crate::answer::Answer;
 use crate::raw;
-use crate::refusal::Answer;
+
+pub(crate) fn version() -> u32 {
+    // SAFETY: no numbers at all.
+    unsafe { raw::siljuvatt_version() }
+}
 
 pub(crate) fn piece_count(format: u8, size: usize) -> Answer {
     // SAFETY: numbers only.
@@ -91,9 +96,9 @@ pub(crate) fn filter_accepts(code: u16, mask: u16, id: u16) -> bool {
     unsafe { raw::siljuvatt_filter_accepts(code, mask, id) }
 }
 
-pub(crate) fn row_accepts(row: &[u8], id: u16) -> Answer {
-    // SAFETY: the pointer is good for the length behind it, and nothing is written to.
-    Answer(unsafe { raw::siljuvatt_row_accepts(row.as_ptr(), row.len(), id) })
+pub(crate) fn row_accepts(row: &[u8; 8], id: u16) -> bool {
+    // SAFETY: the pointer is good for the bytes of a row; the answer is a bool of C, 0 or 1.
+    unsafe { raw::siljuvatt_row_accepts(row, id) }
 }
 
 pub(crate) fn master_new(master: &mut [u8]) -> Answer {

@@ -25,22 +25,47 @@
 //! # Ok(())
 //! # }
 //! ```
+//!
+//! # Memory
+//!
+//! The crate is `no_std`. Only the type [`Store`] needs an allocator; it is there with the feature `alloc`, which is on
+//! by default. Without it a store is any slice of [`numbers::STORE_SIZE`] bytes.
+//!
+//! # Releases
+//!
+//! Later releases add refusals, answers and kinds of exchanges: the enums that they add to are `non_exhaustive`.
+//! [`version`] says which release of the library is linked; it should be [`VERSION`]. An answer that this release does
+//! not know is [`Refusal::Unknown`]; none is taken for another, and none makes a call panic. A library that does not
+//! know this release's stations, masters or watches refuses every call on them by [`Refusal::State`].
 
+#![no_std]
 #![deny(missing_docs)]
 #![deny(unsafe_code)]
 #![forbid(unsafe_op_in_unsafe_fn)]
 
+#[cfg(feature = "alloc")]
+extern crate alloc;
+
 #[allow(unsafe_code)]
 mod ffi;
-#[allow(unsafe_code)]
-mod raw;
 
+/// C's own interface, for those who need it: pointers and lengths, and answers in 32 bits. `include/siljuvatt.h` says of
+/// each function what it does and what it asks of its caller; [`numbers`] has the numbers that go in and come out.
+#[allow(missing_docs, unsafe_code)]
+pub mod raw;
+
+pub mod numbers;
+
+mod answer;
 mod fields;
 mod filter;
 mod master;
 mod refusal;
 mod split;
 mod station;
+#[cfg(feature = "alloc")]
+mod store;
+mod version;
 mod watch;
 
 pub use fields::{Bus, Fields, Format, Key};
@@ -48,7 +73,10 @@ pub use filter::{id_of, Filter, Row};
 pub use master::{Kind, Master, Step};
 pub use refusal::{NoRefusal, Refusal};
 pub use split::{piece_count, pieces, write_piece, Image, Pieces};
-pub use station::{Reply, Station, Store};
+pub use station::{Reply, Station};
+#[cfg(feature = "alloc")]
+pub use store::Store;
+pub use version::{version, Version, VERSION};
 pub use watch::{Silent, Watch};
 
 // The examples in Rust of the page for programmers run with the tests of this crate.

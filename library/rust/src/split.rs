@@ -2,9 +2,9 @@
 
 use crate::ffi;
 use crate::{Fields, Format, Refusal};
-use std::fmt;
-use std::iter::FusedIterator;
-use std::ops::Deref;
+use core::fmt;
+use core::iter::FusedIterator;
+use core::ops::Deref;
 
 /// How many pieces a packet of `size` bytes is: 1 to 256.
 ///
