@@ -87,13 +87,13 @@ pub(crate) fn read(station: &[u8], store: &[u8], slot: usize, start: &mut usize)
 }
 
 pub(crate) fn filter_accepts(code: u16, mask: u16, id: u16) -> bool {
-    // SAFETY: numbers only; the answer is a bool of C, 0 or 1.
-    unsafe { raw::siljuvatt_filter_accepts(code, mask, id) }
+    // SAFETY: numbers only.
+    unsafe { raw::siljuvatt_filter_accepts(code, mask, id) != 0 }
 }
 
-pub(crate) fn row_accepts(row: &[u8], id: u16) -> Answer {
-    // SAFETY: the pointer is good for the length behind it, and nothing is written to.
-    Answer(unsafe { raw::siljuvatt_row_accepts(row.as_ptr(), row.len(), id) })
+pub(crate) fn row_accepts(row: &[u8; 8], id: u16) -> bool {
+    // SAFETY: the pointer is good for the bytes of a row, and nothing is written to.
+    unsafe { raw::siljuvatt_row_accepts(row, id) != 0 }
 }
 
 pub(crate) fn master_new(master: &mut [u8]) -> Answer {

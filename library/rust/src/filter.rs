@@ -53,10 +53,6 @@ impl Row {
     /// Whether either filter of the pair accepts.
     #[must_use]
     pub fn accepts(self, id: u16) -> bool {
-        let answer = ffi::row_accepts(&self.0, id).accepted();
-        answer
-            .expect("a row of eight bytes is not refused")
-            .number()
-            == 1
+        ffi::row_accepts(&self.0, id)
     }
 }

@@ -33,7 +33,7 @@
 #[allow(unsafe_code)]
 mod ffi;
 #[allow(unsafe_code)]
-mod raw;
+pub mod raw;
 
 mod fields;
 mod filter;
