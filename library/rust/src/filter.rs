@@ -1,6 +1,7 @@
 //! Acceptance filters, in extended format.
 
-use crate::{ffi, numbers};
+use crate::numbers;
+use crate::raw::slices;
 
 /// What filters look at: ID.28 to ID.13, which are bytes 1 and 2 of an extended image. None if the image is shorter.
 #[must_use]
@@ -32,7 +33,7 @@ impl Filter {
     /// Whether each bit is the code's or has mask bit 1.
     #[must_use]
     pub fn accepts(self, id: u16) -> bool {
-        ffi::filter_accepts(self.code, self.mask, id)
+        slices::filter_accepts(self.code, self.mask, id)
     }
 }
 
@@ -56,6 +57,6 @@ impl Row {
     /// Whether either filter of the pair accepts.
     #[must_use]
     pub fn accepts(self, id: u16) -> bool {
-        ffi::row_accepts(&self.0, id)
+        slices::row_accepts(&self.0, id)
     }
 }

@@ -46,12 +46,10 @@
 #[cfg(feature = "alloc")]
 extern crate alloc;
 
+/// C's own interface, for those who need it: bytes and numbers go in, and answers of 32 bits come out.
+/// `include/siljuvatt.h` says of each call what it does; [`numbers`] has the header's numbers. The rest of this crate needs
+/// none of it.
 #[allow(unsafe_code)]
-mod ffi;
-
-/// C's own interface, for those who need it: pointers and lengths, and answers in 32 bits. `include/siljuvatt.h` says of
-/// each function what it does and what it asks of its caller; [`numbers`] has the numbers that go in and come out.
-#[allow(missing_docs, unsafe_code)]
 pub mod raw;
 
 pub mod numbers;

@@ -1,7 +1,8 @@
 //! A master's exchanges with its nodes over both buses.
 
 use crate::answer::Answer;
-use crate::{ffi, numbers};
+use crate::numbers;
+use crate::raw::slices;
 use crate::{Bus, Refusal};
 use core::fmt;
 
@@ -72,7 +73,7 @@ impl Master {
     pub fn new() -> Master {
         let mut bytes = [0; Master::SIZE];
         // Only a library of another release refuses; zeros are no master, so every call on them is refused then.
-        let _ = ffi::master_new(&mut bytes);
+        let _ = slices::master_new(&mut bytes);
         Master { bytes }
     }
 
@@ -94,7 +95,8 @@ impl Master {
     /// ```
     pub fn from_bytes(bytes: &[u8]) -> Result<Master, Refusal> {
         let mut bytes: [u8; Master::SIZE] = bytes.try_into().map_err(|_| Refusal::State)?;
-        ffi::master_reply(&mut bytes, Bus::NONE, 0, 0).refused_as(Refusal::Field)?;
+        let answer = slices::master_reply(&mut bytes, Bus::NONE, 0, 0);
+        Answer(answer).refused_as(Refusal::Field)?;
         Ok(Master { bytes })
     }
 
@@ -110,7 +112,8 @@ impl Master {
     ///
     /// In this order: [`Refusal::Field`], [`Refusal::Busy`].
     pub fn start(&mut self, kind: Kind, node: u8) -> Result<Step, Refusal> {
-        step_of(ffi::master_start(&mut self.bytes, kind.number(), node))
+        let answer = slices::master_start(&mut self.bytes, kind.number(), node);
+        step_of(Answer(answer))
     }
 
     /// A reply from a node has come in on a bus, with a function: [`Step::Done`] if it is the one awaited.
@@ -119,12 +122,8 @@ impl Master {
     ///
     /// In this order: [`Refusal::Field`], [`Refusal::Idle`], [`Refusal::NotAwaited`].
     pub fn reply(&mut self, bus: Bus, node: u8, function: u8) -> Result<Step, Refusal> {
-        step_of(ffi::master_reply(
-            &mut self.bytes,
-            bus.number(),
-            node,
-            function,
-        ))
+        let answer = slices::master_reply(&mut self.bytes, bus.number(), node, function);
+        step_of(Answer(answer))
     }
 
     /// No reply came in time: [`Step::Send`] again, or [`Step::GaveUp`].
@@ -133,7 +132,7 @@ impl Master {
     ///
     /// [`Refusal::Idle`].
     pub fn timeout(&mut self) -> Result<Step, Refusal> {
-        step_of(ffi::master_timeout(&mut self.bytes))
+        step_of(Answer(slices::master_timeout(&mut self.bytes)))
     }
 }
 

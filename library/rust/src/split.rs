@@ -1,6 +1,7 @@
 //! Splitting a packet into pieces, each the image of a frame.
 
-use crate::ffi;
+use crate::answer::Answer;
+use crate::raw::slices;
 use crate::{Fields, Format, Refusal};
 use core::fmt;
 use core::iter::FusedIterator;
@@ -18,7 +19,8 @@ use core::ops::Deref;
 /// assert_eq!(piece_count(Format::Standard, 1793), Err(Refusal::Size));
 /// ```
 pub fn piece_count(format: Format, size: usize) -> Result<usize, Refusal> {
-    Ok(ffi::piece_count(format.number(), size).accepted()?.number())
+    let answer = Answer(slices::piece_count(format.number(), size));
+    Ok(answer.accepted()?.number())
 }
 
 /// Writes the image of piece `k` of a packet over the head of the output and answers its length. The rest of the output
@@ -44,8 +46,9 @@ pub fn write_piece(
     output: &mut [u8],
 ) -> Result<usize, Refusal> {
     let (bytes, count) = fields.bytes();
-    let answer = ffi::write_piece(fields.format().number(), &bytes[..count], packet, k, output);
-    Ok(answer.accepted()?.number())
+    let format = fields.format().number();
+    let answer = slices::write_piece(format, &bytes[..count], packet, k, output);
+    Ok(Answer(answer).accepted()?.number())
 }
 
 /// The images of a packet's pieces, in the order in which they are sent.

@@ -1,7 +1,8 @@
 //! A station: up to sixteen streams.
 
 use crate::answer::Answer;
-use crate::{ffi, numbers};
+use crate::numbers;
+use crate::raw::slices;
 use crate::{Bus, Format, Key, Refusal};
 use core::fmt;
 
@@ -72,7 +73,7 @@ impl Station {
     pub fn new(format: Format) -> Station {
         let mut bytes = [0; Station::SIZE];
         // Only a library of another release refuses; zeros are no station, so every call on them is refused then.
-        let _ = ffi::station_new(&mut bytes, format.number());
+        let _ = slices::station_new(&mut bytes, format.number());
         Station { bytes }
     }
 
@@ -91,7 +92,7 @@ impl Station {
     /// ```
     pub fn from_bytes(bytes: &[u8]) -> Result<Station, Refusal> {
         let mut bytes: [u8; Station::SIZE] = bytes.try_into().map_err(|_| Refusal::State)?;
-        ffi::close(&mut bytes, NO_SLOT).refused_as(Refusal::Closed)?;
+        Answer(slices::close(&mut bytes, NO_SLOT)).refused_as(Refusal::Closed)?;
         Ok(Station { bytes })
     }
 
@@ -120,8 +121,8 @@ impl Station {
     /// ```
     pub fn open(&mut self, key: Key) -> Result<usize, Refusal> {
         let (fields, count) = key.fields.bytes();
-        let answer = ffi::open(&mut self.bytes, key.bus.number(), &fields[..count]);
-        Ok(answer.accepted()?.number())
+        let answer = slices::open(&mut self.bytes, key.bus.number(), &fields[..count]);
+        Ok(Answer(answer).accepted()?.number())
     }
 
     /// Closes a slot. What lies in the store stays there.
@@ -130,7 +131,8 @@ impl Station {
     ///
     /// [`Refusal::Closed`].
     pub fn close(&mut self, slot: usize) -> Result<(), Refusal> {
-        ffi::close(&mut self.bytes, slot).accepted().map(drop)
+        let answer = slices::close(&mut self.bytes, slot);
+        Answer(answer).accepted().map(drop)
     }
 
     /// Receives the image of a frame on a bus. Only the area of the slot with the frame's key is written to.
@@ -140,7 +142,8 @@ impl Station {
     /// In this order: [`Refusal::Store`]; of the image [`Refusal::Length`], [`Refusal::Form`], [`Refusal::Remote`],
     /// [`Refusal::Count`], [`Refusal::Piece`]; of the stream [`Refusal::Orphan`], [`Refusal::Step`], [`Refusal::Long`].
     pub fn receive(&mut self, store: &mut [u8], bus: Bus, image: &[u8]) -> Result<Reply, Refusal> {
-        reply_of(ffi::receive(&mut self.bytes, store, bus.number(), image))
+        let answer = slices::receive(&mut self.bytes, store, bus.number(), image);
+        reply_of(Answer(answer))
     }
 
     /// The packet of a slot: the part of the store itself, with no copying.
@@ -162,7 +165,8 @@ impl Station {
     /// ```
     pub fn read<'s>(&self, store: &'s [u8], slot: usize) -> Result<&'s [u8], Refusal> {
         let mut start = 0;
-        let answer = ffi::read(&self.bytes, store, slot, &mut start).accepted()?;
+        let answer = slices::read(&self.bytes, store, slot, &mut start);
+        let answer = Answer(answer).accepted()?;
         let packet = store.get(start..).and_then(|at| at.get(..answer.number()));
         packet.ok_or(answer.unknown())
     }

@@ -1,6 +1,6 @@
 //! The release.
 
-use crate::ffi;
+use crate::raw::slices;
 use core::fmt;
 
 /// A release of the library or of this crate.
@@ -38,7 +38,7 @@ const fn decimal(text: &str, most: u16) -> u16 {
 /// ```
 #[must_use]
 pub fn version() -> Version {
-    let number = ffi::version();
+    let number = slices::version();
     Version {
         major: (number >> 16) as u16,
         minor: (number >> 8) as u8,

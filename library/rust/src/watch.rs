@@ -1,7 +1,8 @@
 //! A watch for a bus gone silent.
 
 use crate::answer::Answer;
-use crate::{ffi, numbers};
+use crate::numbers;
+use crate::raw::slices;
 use crate::{Bus, Refusal};
 
 // The bits of the answer to a check.
@@ -52,7 +53,7 @@ impl Watch {
     pub fn new(now: u32) -> Watch {
         let mut bytes = [0; Watch::SIZE];
         // Only a library of another release refuses; zeros are no watch, so every call on them is refused then.
-        let _ = ffi::watch_new(&mut bytes, now);
+        let _ = slices::watch_new(&mut bytes, now);
         Watch { bytes }
     }
 
@@ -63,7 +64,8 @@ impl Watch {
     /// [`Refusal::State`] if they are no watch of this release's layout.
     pub fn from_bytes(bytes: &[u8]) -> Result<Watch, Refusal> {
         let mut bytes: [u8; Watch::SIZE] = bytes.try_into().map_err(|_| Refusal::State)?;
-        ffi::watch_heard(&mut bytes, Bus::NONE, 0).refused_as(Refusal::Field)?;
+        let answer = slices::watch_heard(&mut bytes, Bus::NONE, 0);
+        Answer(answer).refused_as(Refusal::Field)?;
         Ok(Watch { bytes })
     }
 
@@ -79,9 +81,8 @@ impl Watch {
     ///
     /// None with the library of this release: see [the crate](crate#releases).
     pub fn heard(&mut self, bus: Bus, now: u32) -> Result<(), Refusal> {
-        ffi::watch_heard(&mut self.bytes, bus.number(), now)
-            .accepted()
-            .map(drop)
+        let answer = slices::watch_heard(&mut self.bytes, bus.number(), now);
+        Answer(answer).accepted().map(drop)
     }
 
     /// Which buses are to be reset. The silence of such a bus counts from now on.
@@ -90,7 +91,7 @@ impl Watch {
     ///
     /// None with the library of this release: see [the crate](crate#releases).
     pub fn check(&mut self, now: u32) -> Result<Silent, Refusal> {
-        silent_of(ffi::watch_check(&mut self.bytes, now))
+        silent_of(Answer(slices::watch_check(&mut self.bytes, now)))
     }
 }
 
