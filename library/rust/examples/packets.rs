@@ -26,8 +26,8 @@ impl Bench {
         }
     }
 
-    /// The packet that is whole with this frame, if one is: the part of the store itself.
-    fn packet(&mut self, bus: Bus, image: &[u8]) -> Result<Option<&[u8]>, Refusal> {
+    /// The slot and the packet that is whole with this frame, if one is: the part of the store itself.
+    fn packet(&mut self, bus: Bus, image: &[u8]) -> Result<Option<(usize, &[u8])>, Refusal> {
         let mut reply = self.station.receive(&mut self.store, bus, image)?;
         // The image is sound, or it were refused.
         let fields = fields_of(image);
@@ -37,7 +37,10 @@ impl Bench {
             reply = self.station.receive(&mut self.store, bus, image)?;
         }
         match reply {
-            Reply::Packet { .. } => self.station.read(&self.store, self.slots[&key]).map(Some),
+            Reply::Packet { .. } => {
+                let slot = self.slots[&key];
+                Ok(Some((slot, self.station.read(&self.store, slot)?)))
+            }
             _ => Ok(None),
         }
     }
@@ -75,10 +78,13 @@ pub fn list(mut trace: &[u8], out: &mut impl Write) -> Result<(), Box<dyn Error>
         number += 1;
         let (bus, image, rest) = record(trace).ok_or(format!("record {number}: damaged"))?;
         match bench.packet(bus, image) {
-            Ok(Some(packet)) => {
+            Ok(Some((slot, packet))) => {
                 let length = packet.len();
                 let hex: String = packet.iter().map(|byte| format!(" {byte:02x}")).collect();
-                writeln!(out, "record {number}: bus {bus:?}, {length} bytes:{hex}")?;
+                writeln!(
+                    out,
+                    "record {number}: bus {bus:?}, slot {slot}, packet {length}:{hex}"
+                )?;
             }
             Ok(None) => {}
             Err(refusal) => writeln!(out, "record {number}: bus {bus:?}, refused {refusal}")?,

@@ -81,3 +81,30 @@ pub use watch::{Silent, Watch};
 #[cfg(doctest)]
 #[doc = include_str!("../../README.md")]
 struct Readme;
+
+/// A program names what it does with what a later release adds:
+///
+/// ```
+/// fn kind(kind: siljuvatt::Kind) { match kind { siljuvatt::Kind::Poll => (), _ => () } }
+/// fn reply(reply: siljuvatt::Reply) { match reply { siljuvatt::Reply::Filtered => (), _ => () } }
+/// fn step(step: siljuvatt::Step) { match step { siljuvatt::Step::Done => (), _ => () } }
+/// ```
+///
+/// and is none where it does not:
+///
+/// ```compile_fail,E0004
+/// use siljuvatt::Kind;
+/// fn kind(kind: Kind) { match kind { Kind::Poll | Kind::DataBlock | Kind::Command => () } }
+/// ```
+///
+/// ```compile_fail,E0004
+/// use siljuvatt::Reply;
+/// fn reply(reply: Reply) { match reply { Reply::Packet { .. } | Reply::Kept { .. } | Reply::Filtered => () } }
+/// ```
+///
+/// ```compile_fail,E0004
+/// use siljuvatt::Step;
+/// fn step(step: Step) { match step { Step::Send(_) | Step::Done | Step::GaveUp => () } }
+/// ```
+#[cfg(doctest)]
+struct NonExhaustive;
