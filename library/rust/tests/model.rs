@@ -19,13 +19,13 @@ const STEPS: usize = 1200;
 /// The longest image that damage makes.
 const LONGEST: usize = 20;
 
-/// How many boards there are, what they send, and how many of a thousand frames are disturbed in each way. A board alone
-/// makes packets that pass the limit; twenty are more than there are slots.
+/// How many boards there are, what they send, and how many of a thousand frames are damaged; as many again are disturbed
+/// in other ways. A board alone makes packets that pass the limit; twenty are more than there are slots.
 const RUNS: [(usize, Sizes, usize); 4] = [
     (1, Sizes::TooLong, 0),
-    (3, Sizes::Mixed, 4),
-    (12, Sizes::Short, 3),
-    (20, Sizes::Short, 3),
+    (3, Sizes::Mixed, 24),
+    (12, Sizes::Short, 12),
+    (20, Sizes::Short, 12),
 ];
 
 /// What the model answers to a frame, in the crate's types.
@@ -113,10 +113,14 @@ struct Script<'t> {
 impl Script<'_> {
     fn new(format: Format, number: u64, tally: &mut BTreeMap<String, usize>) -> Script<'_> {
         let mut random = Random::of_item(1, number);
-        let (count, sizes, times) = RUNS[number as usize % RUNS.len()];
+        let (count, sizes, damaged) = RUNS[number as usize % RUNS.len()];
         let keys = different_keys(second_format(format), count, &mut random);
+        let noise = Noise {
+            corrupt: damaged,
+            ..Noise::even(damaged / 6)
+        };
         let own = Random::of_item(2, number);
-        let traffic = Traffic::new(&keys, sizes, Noise::even(times), LONGEST, own);
+        let traffic = Traffic::new(&keys, sizes, noise, LONGEST, own);
         Script {
             pair: Pair::new(format),
             keys,
