@@ -1,5 +1,5 @@
-//! What to begin with: a packet is split, a station joins its pieces while a frame is lost and sent again; a master leads
-//! a command over both buses; a watch tells of a silent bus.
+//! What to begin with: a packet is split, a station joins its pieces while a frame is lost and sent again; a master
+//! leads a command over both buses; a watch tells of a silent bus.
 //!
 //! usage: cargo run --example begin
 
@@ -81,7 +81,6 @@ pub fn begin(out: &mut impl Write) -> Result<(), Box<dyn Error>> {
     watch(out)
 }
 
-#[allow(dead_code)] // a test calls what is above
 fn main() -> Result<(), Box<dyn Error>> {
     begin(&mut io::stdout().lock())
 }

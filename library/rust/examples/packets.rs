@@ -2,7 +2,8 @@
 //!
 //! usage: cargo run --example packets TRACE
 //!
-//! A record of the trace is a two-byte big-endian length of what follows, version byte 1, bus byte 0 (A) or 1 (B), image.
+//! A record of the trace is a two-byte big-endian length of what follows, version byte 1, bus byte 0 (A) or 1 (B), and
+//! the image.
 
 use siljuvatt::{Bus, Fields, Format, Key, Refusal, Reply, Station, Store};
 use std::collections::HashMap;
@@ -94,7 +95,6 @@ pub fn list(mut trace: &[u8], out: &mut impl Write) -> Result<(), Box<dyn Error>
     Ok(writeln!(out, "{number} records")?)
 }
 
-#[allow(dead_code)] // a test calls what is above
 fn main() -> Result<(), Box<dyn Error>> {
     let path = env::args_os().nth(1).ok_or("usage: packets TRACE")?;
     list(&fs::read(path)?, &mut io::stdout().lock())

@@ -47,8 +47,8 @@
 extern crate alloc;
 
 /// C's own interface, for those who need it: bytes and numbers go in, and answers of 32 bits come out.
-/// `include/siljuvatt.h` says of each call what it does; [`numbers`] has the header's numbers. The rest of this crate needs
-/// none of it.
+/// `include/siljuvatt.h` says of each call what it does; [`numbers`] has the header's numbers. A program that uses the
+/// types of this crate needs none of it.
 #[allow(unsafe_code)]
 pub mod raw;
 

@@ -28,7 +28,8 @@ pub fn piece_count(format: Format, size: usize) -> Result<usize, Refusal> {
 ///
 /// # Errors
 ///
-/// In this order: [`Refusal::Field`], [`Refusal::Size`], [`Refusal::Index`], [`Refusal::Room`]. Nothing is written then.
+/// In this order: [`Refusal::Field`], [`Refusal::Size`], [`Refusal::Index`], [`Refusal::Room`]. Nothing is written
+/// then.
 ///
 /// ```
 /// use siljuvatt::{write_piece, Fields};
@@ -55,7 +56,8 @@ pub fn write_piece(
 ///
 /// # Errors
 ///
-/// [`Refusal::Field`], or else [`Refusal::Size`]. There are none later on: every packet within the limit has its pieces.
+/// [`Refusal::Field`], or else [`Refusal::Size`]. There are none later on: every packet within the limit has its
+/// pieces.
 ///
 /// ```
 /// use siljuvatt::{pieces, Fields};

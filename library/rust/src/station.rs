@@ -30,8 +30,8 @@ pub enum Reply {
     Filtered,
 }
 
-/// A station of one format with sixteen slots. It is 130 bytes and nothing else: it may be copied, written to a file and
-/// made again from its bytes. The last byte is the number of their layout: a release reads its own.
+/// A station of one format with sixteen slots. It is 130 bytes and nothing else: it may be copied, written to a file
+/// and made again from its bytes. The last byte is the number of their layout: a release reads its own.
 ///
 /// Its packets lie in a store of 32,768 bytes that each call is lent: a [`Store`](crate::Store), or any slice.
 ///

@@ -1,8 +1,10 @@
 //! What the examples print.
 #![cfg(feature = "alloc")]
 
+#[allow(dead_code)] // main
 #[path = "../examples/begin.rs"]
 mod begin;
+#[allow(dead_code)] // main
 #[path = "../examples/packets.rs"]
 mod packets;
 
@@ -29,7 +31,8 @@ fn begin() {
     assert_eq!(String::from_utf8(out).unwrap(), BEGIN);
 }
 
-/// Of each record with a packet or a refusal: its number, which of them, and the packet's length or the refusal's number.
+/// Of each record with a packet or a refusal: its number, which of them, and the packet's length or the refusal's
+/// number.
 fn outcomes(text: &str) -> Vec<[&str; 3]> {
     let told = |line| {
         let words: Vec<&str> = str::split(line, [' ', ':', ',']).collect();

@@ -19,8 +19,8 @@ const STEPS: usize = 1200;
 /// The longest image that damage makes.
 const LONGEST: usize = 20;
 
-/// How many boards there are, what they send, and how many of a thousand frames are damaged; as many again are disturbed
-/// in other ways. A board alone makes packets that pass the limit; twenty are more than there are slots.
+/// How many boards there are, what they send, and how many of a thousand frames are damaged; as many again are
+/// disturbed in other ways. A board alone makes packets that pass the limit; twenty are more than there are slots.
 const RUNS: [(usize, Sizes, usize); 4] = [
     (1, Sizes::TooLong, 0),
     (3, Sizes::Mixed, 24),
