@@ -1,15 +1,17 @@
 //! Compares the calls of a station, script by script.
 
 use crate::exchange;
-use crate::frame::{Format, FORMATS};
 use crate::program;
-use crate::request::{self, answer, encode, name, Request};
+use crate::request::{self, answer, encode, name, refused, Request};
 use crate::script::{Script, CUT_SHORT, LENT_OTHER, MALFORMED, UNSOUND, WHOLE_STORE};
 use crate::tally::Tally;
+use second::format::Format;
+use second::refusal::Refusal;
 use std::fs;
 use std::io::{BufReader, Write};
 use std::path::Path;
 use std::process::Command;
+use testkit::{keys, FORMATS};
 
 /// Runs both programs on that many scripts and compares their responses one by one.
 pub fn compare(calls: &Path, count: u64, seed: u64, keep: Option<&Path>) -> Result<(), String> {
@@ -57,7 +59,7 @@ fn whole(script: &Script) -> Vec<u8> {
 
 /// The name under which something is counted: of receiving, each front by itself.
 fn row(format: Format, front: u8, what: &str) -> String {
-    let format = format.name();
+    let format = keys::name(format);
     match what.starts_with("RECEIVE") {
         true => format!("{format} front {front} {what}"),
         false => format!("{format} {what}"),
@@ -65,51 +67,76 @@ fn row(format: Format, front: u8, what: &str) -> String {
 }
 
 /// What receiving can answer in a format.
-fn received(format: Format) -> Vec<&'static str> {
-    let mut answers = vec![
+fn received(format: Format) -> Vec<String> {
+    let answers = [
         "RECEIVE packet",
         "RECEIVE packet broke",
         "RECEIVE kept",
         "RECEIVE kept broke",
         "RECEIVE filtered",
-        "RECEIVE refused 1",
-        "RECEIVE refused 3",
-        "RECEIVE refused 4",
-        "RECEIVE refused 5",
-        "RECEIVE refused 6",
-        "RECEIVE refused 7",
-        "RECEIVE refused 9",
-        "RECEIVE refused 13",
-        "RECEIVE refused 21",
     ];
-    if format == Format::Extended {
-        answers.extend(["RECEIVE refused 2", "RECEIVE refused 8"]);
-    }
+    let refusals = [
+        Refusal::Length,
+        Refusal::Remote,
+        Refusal::Count,
+        Refusal::Piece,
+        Refusal::Orphan,
+        Refusal::Step,
+        Refusal::Field,
+        Refusal::Store,
+        Refusal::State,
+    ];
+    let own: &[Refusal] = match format {
+        Format::Extended => &[Refusal::Form, Refusal::Long],
+        Format::Standard => &[],
+    };
+    let refusals = refusals.iter().chain(own);
+    let refusals = refusals.map(|&refusal| of_call("RECEIVE", refusal));
     answers
+        .map(String::from)
+        .into_iter()
+        .chain(refusals)
+        .collect()
+}
+
+fn of_call(call: &str, refusal: Refusal) -> String {
+    format!("{call} {}", refused(refusal))
 }
 
 /// What is counted of both fronts together: what the other calls can answer, and what the generator knows.
-const OTHERS: [&str; 16] = [
-    "OPEN value",
-    "OPEN refused 9",
-    "OPEN refused 14",
-    "OPEN refused 15",
-    "OPEN refused 21",
-    "CLOSE value",
-    "CLOSE refused 16",
-    "CLOSE refused 21",
-    "READ value",
-    "READ refused 13",
-    "READ refused 16",
-    "READ refused 17",
-    "READ refused 21",
-    MALFORMED,
-    CUT_SHORT,
-    WHOLE_STORE,
-];
+fn others() -> Vec<String> {
+    let refusals: [(&str, &[Refusal]); 3] = [
+        (
+            "OPEN",
+            &[
+                Refusal::Field,
+                Refusal::Taken,
+                Refusal::Full,
+                Refusal::State,
+            ],
+        ),
+        ("CLOSE", &[Refusal::Closed, Refusal::State]),
+        (
+            "READ",
+            &[
+                Refusal::Store,
+                Refusal::Closed,
+                Refusal::NoPacket,
+                Refusal::State,
+            ],
+        ),
+    ];
+    let mut names = Vec::new();
+    for (call, refusals) in refusals {
+        names.push(format!("{call} value"));
+        names.extend(refusals.iter().map(|&refusal| of_call(call, refusal)));
+    }
+    names.extend([MALFORMED, CUT_SHORT, WHOLE_STORE].map(String::from));
+    names
+}
 
 fn longest(format: Format) -> String {
-    format!("RECEIVE packet of {} bytes", format.limit())
+    format!("RECEIVE packet of {} bytes", format.packet_limit())
 }
 
 fn of_length(length: usize) -> String {
@@ -120,15 +147,13 @@ fn names() -> Vec<String> {
     let mut names = Vec::new();
     for format in FORMATS {
         for front in [0, 1] {
-            let rows = received(format)
-                .into_iter()
-                .chain(UNSOUND)
-                .chain([LENT_OTHER]);
-            names.extend(rows.map(|what| row(format, front, what)));
+            let known = UNSOUND.into_iter().chain([LENT_OTHER]);
+            let rows = received(format).into_iter().chain(known.map(String::from));
+            names.extend(rows.map(|what| row(format, front, &what)));
             names.push(row(format, front, &longest(format)));
             names.extend((0..=15).map(|length| row(format, front, &of_length(length))));
         }
-        names.extend(OTHERS.map(|what| row(format, 0, what)));
+        names.extend(others().iter().map(|what| row(format, 0, what)));
     }
     names
 }
@@ -158,7 +183,7 @@ fn count_answers(requests: &[Request], responses: &[Vec<u8>], tally: &mut Tally)
         if operation == request::RECEIVE {
             tally.count(&row(format, front, &of_length(request.len() - 2)));
         }
-        let [high, low] = (format.limit() as u16).to_be_bytes();
+        let [high, low] = (format.packet_limit() as u16).to_be_bytes();
         if response.starts_with(&[1, high, low]) {
             tally.count(&row(format, front, &longest(format)));
         }
@@ -220,7 +245,7 @@ mod tests {
         let names = names();
         for front in [0, 1] {
             for format in FORMATS {
-                let row = format!("{} front {front} RECEIVE refused 7", format.name());
+                let row = row(format, front, &of_call("RECEIVE", Refusal::Step));
                 assert_eq!(names.iter().filter(|name| **name == row).count(), 1);
             }
         }

@@ -2,24 +2,24 @@
 
 use crate::calls::keep_script;
 use crate::exchange;
-use crate::frame::{Format, Key};
-use crate::observe::ANSWERS;
+use crate::observe::answers;
 use crate::program::{self, drip};
-use crate::random::Random;
-use crate::request::{self, answer, encode, name, Request, FULL_STORE};
+use crate::request::{self, answer, encode, name, refused, Request, FULL_STORE};
 use crate::tally::Tally;
 use crate::trace::{read_record, Trace};
+use second::format::Format;
+use second::interface::fields_of;
+use second::key::Key;
+use second::refusal::Refusal;
 use std::io::BufReader;
 use std::path::Path;
 use std::process::Command;
+use testkit::Random;
 
 /// The station's own, and the one over a lent table.
 const FRONTS: [u8; 2] = [0, 1];
 
 const SMALL_PARTS: &str = "input: written in small parts";
-
-/// What opening a key can answer here: it is new, open already, or all slots are taken.
-const OPENED: [&str; 3] = ["value", "refused 14", "refused 15"];
 
 /// Has the program receive the records of that many traces and compares each response with the second program's.
 pub fn compare(calls: &Path, count: u64, seed: u64, keep: Option<&Path>) -> Result<(), String> {
@@ -48,8 +48,15 @@ pub fn compare(calls: &Path, count: u64, seed: u64, keep: Option<&Path>) -> Resu
 fn names() -> Vec<String> {
     let mut names = vec![SMALL_PARTS.to_string()];
     for front in FRONTS {
-        names.extend(ANSWERS.map(|answer| row(front, request::RECEIVE, answer)));
-        names.extend(OPENED.map(|answer| row(front, request::OPEN, answer)));
+        let received = answers().into_iter();
+        names.extend(received.map(|answer| row(front, request::RECEIVE, &answer)));
+        // A key is new, open already, or all slots are taken.
+        let opened = [
+            "value".into(),
+            refused(Refusal::Taken),
+            refused(Refusal::Full),
+        ];
+        names.extend(opened.map(|answer| row(front, request::OPEN, &answer)));
     }
     names
 }
@@ -117,13 +124,8 @@ fn script(trace: &Trace, front: u8) -> Result<Script, String> {
             _ => return Err(format!("second: no such record: {:?}", record.line)),
         };
         if let Some(fields) = record.fields {
-            let format = Format::Extended;
-            let key = Key {
-                bus,
-                format,
-                fields,
-            };
-            requests.push(request::open(&key, 0));
+            let fields = fields_of(Format::Extended, &fields).expect("five fields");
+            requests.push(request::open(&Key { bus, fields }, 0));
         }
         requests.push(request::receive(bus, &image));
     }

@@ -2,9 +2,7 @@
 //! All inputs come from fixed seeds. What occurred is counted, and what must occur but never did is an error.
 
 mod calls;
-mod corrupt;
 mod exchange;
-mod frame;
 mod fronts;
 mod full;
 mod log;
@@ -12,14 +10,12 @@ mod make;
 mod observe;
 mod pieces;
 mod program;
-mod random;
 mod request;
 mod script;
 mod step;
 mod tally;
 mod trace;
 mod traces;
-mod traffic;
 
 use std::env;
 use std::io;

@@ -1,10 +1,11 @@
 //! Makes a long trace as a busy bench gives it.
 
-use crate::frame::{different_keys, Format};
-use crate::random::Random;
 use crate::trace::write_record;
-use crate::traffic::{Noise, Sizes, Traffic};
+use second::format::Format;
 use std::io::{self, BufWriter, Write};
+use testkit::keys::different_keys;
+use testkit::traffic::{Noise, Sizes, Traffic};
+use testkit::Random;
 
 /// Writes a trace of that many records, none damaged: twelve streams on both buses, of which one frame in a hundred
 /// is lost, repeated or corrupted. Twelve, because a corrupted identifier looks like a stream of its own.
@@ -20,7 +21,7 @@ pub fn make(records: u64, seed: u64, output: impl Write) -> io::Result<()> {
     let mut traffic = Traffic::new(&keys, Sizes::Bench, noise, 13, random);
     let mut output = BufWriter::with_capacity(1 << 16, output);
     for _ in 0..records {
-        let arrival = traffic.next();
+        let arrival = traffic.next_frame();
         write_record(&mut output, arrival.bus, &arrival.image)?;
     }
     output.flush()

@@ -1,29 +1,31 @@
 //! What occurred in a run, as its listing shows it.
 
+use crate::request::refused;
 use crate::tally::Tally;
+use second::refusal::Refusal;
 
 /// What a record can be answered, packets of all lengths together.
-pub const ANSWERS: [&str; 13] = [
-    "packet",
-    "packet broke",
-    "kept",
-    "kept broke",
-    "filtered",
-    "refused 1",
-    "refused 2",
-    "refused 3",
-    "refused 4",
-    "refused 5",
-    "refused 6",
-    "refused 7",
-    "refused 8",
-];
+pub fn answers() -> Vec<String> {
+    let taken = ["packet", "packet broke", "kept", "kept broke", "filtered"];
+    let refusals = [
+        Refusal::Length,
+        Refusal::Form,
+        Refusal::Remote,
+        Refusal::Count,
+        Refusal::Piece,
+        Refusal::Orphan,
+        Refusal::Step,
+        Refusal::Long,
+    ];
+    let taken = taken.into_iter().map(String::from);
+    taken.chain(refusals.map(refused)).collect()
+}
 
 const WRAPPED: &str = "middle with number 0 kept (piece 64, 128 or 192)";
 const WHOLE_512: &str = "packet of over 512 bytes";
 const WHOLE_2048: &str = "packet of 2048 bytes";
-const LONG_0: &str = "number 0 refused 8 (piece 257)";
-const ORPHAN_END: &str = "end refused 6";
+const LONG_0: &str = "number 0 refused as LONG (piece 257)";
+const ORPHAN_END: &str = "end refused as ORPHAN";
 const BETWEEN: &str = "packet with frames of another source between its own";
 const TWIN: &str = "packet with frames of the same fields on the other bus between";
 const STOPPED: &str = "stopped";
@@ -34,7 +36,7 @@ pub fn names() -> Vec<String> {
     let others = [
         WRAPPED, WHOLE_512, WHOLE_2048, LONG_0, ORPHAN_END, BETWEEN, TWIN, STOPPED,
     ];
-    let fixed = ANSWERS.iter().chain(&others).map(|name| name.to_string());
+    let fixed = answers().into_iter().chain(others.map(String::from));
     fixed.chain(singles).collect()
 }
 
@@ -161,12 +163,13 @@ impl Observer<'_> {
 
     fn refused(&mut self, line: &Line, number: &str) {
         self.tally.count(&format!("refused {number}"));
-        match (number, line.flag, line.number) {
-            ("6", "2", _) => self.tally.count(ORPHAN_END),
-            ("8", _, "0") => self.tally.count(LONG_0),
+        let is = |refusal: Refusal| number.parse() == Ok(refusal.number());
+        match (line.flag, line.number) {
+            ("2", _) if is(Refusal::Orphan) => self.tally.count(ORPHAN_END),
+            (_, "0") if is(Refusal::Long) => self.tally.count(LONG_0),
             _ => {}
         }
-        // After 7 and 8 the stream is idle; after 6 it held nothing.
+        // After STEP and LONG the stream is idle; after ORPHAN it held nothing.
         self.forget(line);
     }
 

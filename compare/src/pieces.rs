@@ -1,14 +1,17 @@
 //! Compares splitting at every packet size of both formats.
 
 use crate::exchange;
-use crate::frame::{self, piece_count, Format, Key, FORMATS};
 use crate::program;
-use crate::random::Random;
-use crate::request::{self, answer, encode, name, Request};
+use crate::request::{self, answer, encode, name, refused, Request};
 use crate::tally::Tally;
+use second::format::Format;
+use second::refusal::Refusal;
+use second::split;
 use std::io::{BufReader, Write};
 use std::path::Path;
 use std::process::{ChildStdin, Command};
+use testkit::keys::{any_fields, bad_fields};
+use testkit::{keys, Random, FORMATS};
 
 const SEED: u64 = 43_671;
 
@@ -29,7 +32,7 @@ pub fn compare(calls: &Path) -> Result<(), String> {
             let batch = batch(format, size);
             let expected = exchange::by_second(&batch, &[])?;
             exchange::compare(&mut output, &batch, &expected).map_err(|difference| {
-                format!("{} packets, size {size}: {difference}", format.name())
+                format!("{} packets, size {size}: {difference}", keys::name(format))
             })?;
             for (request, response) in batch.iter().zip(&expected) {
                 tally.count(&row(format, request[0], response));
@@ -45,21 +48,31 @@ pub fn compare(calls: &Path) -> Result<(), String> {
 }
 
 fn row(format: Format, operation: u8, response: &[u8]) -> String {
-    format!("{} {} {}", format.name(), name(operation), answer(response))
+    format!(
+        "{} {} {}",
+        keys::name(format),
+        name(operation),
+        answer(response)
+    )
 }
 
 fn names() -> Vec<String> {
-    let outcomes = [
-        "COUNT value",
-        "COUNT refused 10",
-        "PIECE value",
-        "PIECE refused 9",
-        "PIECE refused 10",
-        "PIECE refused 11",
-        "PIECE refused 12",
+    let calls: [(&str, &[Refusal]); 2] = [
+        ("COUNT", &[Refusal::Size]),
+        (
+            "PIECE",
+            &[Refusal::Field, Refusal::Size, Refusal::Index, Refusal::Room],
+        ),
     ];
-    let row = |format: Format| outcomes.map(|outcome| format!("{} {outcome}", format.name()));
-    FORMATS.into_iter().flat_map(row).collect()
+    let mut names = Vec::new();
+    for format in FORMATS.map(keys::name) {
+        for (call, refusals) in calls {
+            names.push(format!("{format} {call} value"));
+            let refusals = refusals.iter().map(|&refusal| refused(refusal));
+            names.extend(refusals.map(|refused| format!("{format} {call} {refused}")));
+        }
+    }
+    names
 }
 
 /// Every size up to the limit and two more, then some far over it.
@@ -82,25 +95,35 @@ fn batches() -> impl Iterator<Item = (Format, usize)> {
         0xFFFF_FFFF_FFFF_FFFF,
     ];
     FORMATS.into_iter().flat_map(|format| {
-        let sizes = (0..=format.limit() + 2).chain(LARGE);
+        let sizes = (0..=format.packet_limit() + 2).chain(LARGE);
         sizes.map(move |size| (format, size))
     })
 }
 
 /// The requests for one size. A packet that no request can hold is only asked about.
 fn batch(format: Format, size: usize) -> Vec<Request> {
-    let mut random = Random::of_item(SEED ^ u64::from(request::code(format)), size as u64);
+    let mut random = Random::of_item(SEED ^ u64::from(keys::number(format)), size as u64);
     let mut requests = vec![request::count(format, size as u64)];
     if size > 65_520 {
         return requests;
     }
     let packet = random.bytes(size);
-    let count = piece_count(format, size);
-    let every = if size > format.limit() + 2 { 3 } else { count };
+    let count = split::pieces_for(format, size);
+    let every = if size > format.packet_limit() + 2 {
+        3
+    } else {
+        count
+    };
     for k in 0..=every {
-        let key = Key::any(format, &mut random);
+        let fields = any_fields(format, &mut random);
         let room = random.pick(&[13, 13, 13, 14, 20, 255]);
-        requests.push(request::piece(&key, random.byte(), k as u16, room, &packet));
+        requests.push(request::piece(
+            &fields,
+            random.byte(),
+            k as u16,
+            room,
+            &packet,
+        ));
     }
     for _ in 0..6 {
         requests.push(tight(format, &packet, &mut random));
@@ -113,28 +136,25 @@ fn batch(format: Format, size: usize) -> Vec<Request> {
 
 /// A piece with room around the length of its image.
 fn tight(format: Format, packet: &[u8], random: &mut Random) -> Request {
-    let key = Key::any(format, random);
-    let count = piece_count(format, packet.len());
+    let fields = any_fields(format, random);
+    let count = split::pieces_for(format, packet.len());
     let any = random.below(count);
     let k = random.pick(&[0, count - 1, any]);
-    let length = frame::piece(&key, packet, k).len() as u8;
+    let length = split::piece(&fields, packet, k).len() as u8;
     let room = random.pick(&[0, 1, length - 1, length - 1, length, length + 1]);
-    request::piece(&key, random.byte(), k as u16, room, packet)
+    request::piece(&fields, random.byte(), k as u16, room, packet)
 }
 
 /// A piece with fields out of range, a number too high, little room, or several of these.
 fn wrong(format: Format, packet: &[u8], random: &mut Random) -> Request {
-    let mut key = Key::any(format, random);
-    if random.chance(700) {
-        // The bus isn't handed over, so one of the fields it is.
-        while key.bus > 1 || key.in_range() {
-            key = Key::out_of_range(format, random);
-        }
-    }
-    let count = piece_count(format, packet.len());
+    let fields = match random.chance(700) {
+        true => bad_fields(format, random),
+        false => any_fields(format, random),
+    };
+    let count = split::pieces_for(format, packet.len());
     let k = random.pick(&[0, count - 1, count, count + 1, 64, 256, 257, 65_535]);
     let room = random.pick(&[0, 4, 9, 12, 13, 13, 13]);
-    request::piece(&key, random.byte(), k as u16, room, packet)
+    request::piece(&fields, random.byte(), k as u16, room, packet)
 }
 
 #[cfg(test)]
@@ -160,7 +180,7 @@ mod tests {
                 .filter(|batch| batch.0 == format)
                 .map(|batch| batch.1)
                 .collect();
-            assert!((0..=format.limit() + 2).all(|size| sizes.contains(&size)));
+            assert!((0..=format.packet_limit() + 2).all(|size| sizes.contains(&size)));
             let largest = batch(format, 65_520);
             assert!(largest.iter().all(|request| request.len() <= 65_535));
         }

@@ -1,7 +1,10 @@
 //! Requests and responses of the script protocol (see PROTOCOL.md).
 
-use crate::frame::{Format, Key};
+use second::format::Format;
+use second::key::{Fields, Key};
+use second::refusal::Refusal;
 use std::io::{self, Read};
+use testkit::keys::{field_bytes, number};
 
 pub const NEW: u8 = 1;
 pub const OPEN: u8 = 2;
@@ -24,24 +27,17 @@ pub const FULL_STORE: usize = 32_768;
 /// A request without its length.
 pub type Request = Vec<u8>;
 
-pub fn code(format: Format) -> u8 {
-    match format {
-        Format::Extended => 0,
-        Format::Standard => 1,
-    }
-}
-
 pub fn new(format: Format) -> Request {
-    vec![NEW, code(format)]
+    vec![NEW, number(format)]
 }
 
 /// Bus, format and five fields. `spare` goes where the fields of standard end and nothing is looked at.
 fn key_bytes(key: &Key, spare: u8) -> [u8; 7] {
-    let [a, b, c, d, e] = key.fields;
-    match key.format {
-        Format::Extended => [key.bus, 0, a, b, c, d, e],
-        Format::Standard => [key.bus, 1, a, b, c, spare, !spare],
-    }
+    let format = number(key.fields.format());
+    let fields = field_bytes(&key.fields);
+    let mut bytes = [key.bus, format, 0, 0, 0, spare, !spare];
+    bytes[2..][..fields.len()].copy_from_slice(&fields);
+    bytes
 }
 
 pub fn open(key: &Key, spare: u8) -> Request {
@@ -65,15 +61,16 @@ pub fn read(slot: u8) -> Request {
 }
 
 pub fn count(format: Format, size: u64) -> Request {
-    let mut request = vec![COUNT, code(format)];
+    let mut request = vec![COUNT, number(format)];
     request.extend(size.to_be_bytes());
     request
 }
 
-/// Piece k with the fields of a key; its bus is not used.
-pub fn piece(key: &Key, spare: u8, k: u16, room: u8, packet: &[u8]) -> Request {
+/// Piece k with these fields.
+pub fn piece(fields: &Fields, spare: u8, k: u16, room: u8, packet: &[u8]) -> Request {
+    let (bus, fields) = (0, *fields);
     let mut request = vec![PIECE];
-    request.extend(&key_bytes(key, spare)[1..]);
+    request.extend(&key_bytes(&Key { bus, fields }, spare)[1..]);
     request.extend(k.to_be_bytes());
     request.push(room);
     request.extend_from_slice(packet);
@@ -156,6 +153,11 @@ pub fn name(operation: u8) -> &'static str {
     }
 }
 
+/// A refusal as an answer, in words.
+pub fn refused(refusal: Refusal) -> String {
+    format!("refused {}", refusal.number())
+}
+
 /// The answer at the head of a response, in words. A value is not told.
 pub fn answer(response: &[u8]) -> String {
     let &[kind, high, low, broke, ..] = response else {
@@ -181,16 +183,17 @@ mod tests {
 
     #[test]
     fn requests_have_the_sizes_of_the_protocol() {
-        let key = Key {
-            bus: 1,
-            format: Format::Standard,
-            fields: [1, 2, 1, 0, 0],
+        let fields = Fields::Standard {
+            priority: 1,
+            address: 2,
+            side: 1,
         };
+        let key = Key { bus: 1, fields };
         assert_eq!(open(&key, 9), [2, 1, 1, 1, 2, 1, 9, 246]);
         assert_eq!(slot(3, DONE, 258, &key, 0)[..6], [8, 3, 3, 1, 2, 1]);
         assert_eq!(slot(3, DONE, 258, &key, 0).len(), 12);
         assert_eq!(
-            piece(&key, 9, 258, 13, &[5])[..],
+            piece(&fields, 9, 258, 13, &[5])[..],
             [7, 1, 1, 2, 1, 9, 246, 1, 2, 13, 5]
         );
         assert_eq!(
@@ -218,7 +221,7 @@ mod tests {
     #[test]
     fn reads_answers() {
         assert_eq!(answer(&[1, 0, 9, 1, 0]), "packet broke");
-        assert_eq!(answer(&[4, 0, 21, 0]), "refused 21");
+        assert_eq!(answer(&[4, 0, 21, 0]), refused(Refusal::State));
         assert_eq!(answer(&[]), "no answer");
     }
 }

@@ -1,9 +1,11 @@
 //! Generates scripts of calls on a station: mostly frames received, among all the other calls.
 
-use crate::frame::{different_keys, Format, Key};
-use crate::random::Random;
 use crate::request::{self, Request, CLOSED, COLLECTING, DONE, FULL_STORE, HELD, IDLE};
-use crate::traffic::{Noise, Sizes, Traffic};
+use second::format::Format;
+use second::key::Key;
+use testkit::keys::{any_fields, any_key, bad_key, different_keys, other, NO_BUSES};
+use testkit::traffic::{Noise, Sizes, Traffic};
+use testkit::Random;
 
 /// The ways in which a slot is made unsound, with an image received while it is.
 pub const UNSOUND: [&str; 5] = [
@@ -114,7 +116,7 @@ impl Script {
 impl Writer {
     fn new(format: Format, profile: &Profile, mut random: Random) -> Writer {
         let keys = different_keys(format, profile.streams, &mut random);
-        let own = Random::new(random.next());
+        let own = Random::new(random.next_u64());
         let (sizes, noise) = (profile.sizes, profile.noise);
         Writer {
             format,
@@ -199,9 +201,9 @@ impl Writer {
     }
 
     fn receive(&mut self) {
-        let arrival = self.traffic.next();
+        let arrival = self.traffic.next_frame();
         let bus = if self.random.chance(5) {
-            self.random.pick(&[2, 3, 128, 255])
+            self.random.pick(&NO_BUSES)
         } else {
             arrival.bus
         };
@@ -263,9 +265,9 @@ impl Writer {
     fn open_some(&mut self) {
         let key = match self.random.below(8) {
             0..=3 => self.random.pick(&self.keys),
-            4 | 5 => Key::any(self.format, &mut self.random),
-            6 => Key::out_of_range(self.format, &mut self.random),
-            _ => Key::any(self.format.other(), &mut self.random),
+            4 | 5 => any_key(self.format, &mut self.random),
+            6 => bad_key(self.format, &mut self.random),
+            _ => any_key(other(self.format), &mut self.random),
         };
         self.open_key(key);
     }
@@ -273,7 +275,7 @@ impl Writer {
     fn open_key(&mut self, key: Key) {
         let spare = self.random.byte();
         self.push(request::open(&key, spare));
-        let fits = self.sound && key.in_range() && key.format == self.format;
+        let fits = self.sound && key.in_range(self.format);
         if fits && !self.open.contains(&Some(key)) {
             if let Some(slot) = self.open.iter_mut().find(|slot| slot.is_none()) {
                 *slot = Some(key);
@@ -286,7 +288,7 @@ impl Writer {
         let place = self.random.below(16);
         let mut key = self.random.pick(&self.keys);
         while self.open.contains(&Some(key)) && self.open[place] != Some(key) {
-            key = Key::any(self.format, &mut self.random);
+            key = any_key(self.format, &mut self.random);
         }
         let kinds = [CLOSED, IDLE, COLLECTING, COLLECTING, DONE];
         let kind = self.random.pick(&kinds);
@@ -301,12 +303,8 @@ impl Writer {
 
     /// An h that is sound in a slot of that kind; it is not looked at in a closed or idle one.
     fn sound_h(&mut self, kind: u8) -> usize {
-        let (size, limit) = (self.format.piece_size(), self.format.limit());
-        // A standard packet has at most 255 pieces before its end.
-        let most = match self.format {
-            Format::Extended => 256,
-            Format::Standard => 255,
-        };
+        let (size, limit) = (self.format.piece_size(), self.format.packet_limit());
+        let most = self.format.collecting_limit() / size;
         let any_pieces = self.random.within(1, most);
         let any_length = self.random.within(0, limit);
         match kind {
@@ -342,18 +340,13 @@ impl Writer {
     /// Kind, h and key of a slot that is unsound in that way. There may be no other key to hold twice.
     fn unsound_state(&mut self, way: usize, place: usize) -> Option<(u8, u16, Key)> {
         let random = &mut self.random;
-        let (size, limit) = (self.format.piece_size(), self.format.limit());
-        let key = Key::any(self.format, random);
+        let (size, limit) = (self.format.piece_size(), self.format.packet_limit());
+        let key = any_key(self.format, random);
         let kind = random.pick(&[IDLE, COLLECTING, DONE]);
         let whole = random.within(1, 255) * size;
         Some(match way {
             0 => {
-                // Of standard the limit itself is one: it is no sum of pieces that still waits for another.
-                let over = if self.format == Format::Standard {
-                    limit
-                } else {
-                    limit + size
-                };
+                let over = self.format.collecting_limit() + size;
                 let between = whole - random.within(1, size - 1);
                 let h = random.pick(&[0, 1, between, whole + 1, over, 65_535, 65_528]);
                 (COLLECTING, h as u16, key)
@@ -373,8 +366,8 @@ impl Writer {
                 }
                 (kind, whole as u16, random.pick(&others))
             }
-            3 => (kind, whole as u16, Key::out_of_range(self.format, random)),
-            _ => (kind, whole as u16, Key::any(self.format.other(), random)),
+            3 => (kind, whole as u16, bad_key(self.format, random)),
+            _ => (kind, whole as u16, any_key(other(self.format), random)),
         })
     }
 
@@ -413,18 +406,18 @@ impl Writer {
         let format = self.random.pick(&[Format::Extended, Format::Standard]);
         let size = self.random.within(0, 60);
         self.push(request::count(format, size as u64));
-        let key = Key::any(format, &mut self.random);
+        let fields = any_fields(format, &mut self.random);
         let k = self.random.within(0, 8) as u16;
         let room = self.random.within(0, 20) as u8;
         let packet = self.random.bytes(size);
         let spare = self.random.byte();
-        self.push(request::piece(&key, spare, k, room, &packet));
+        self.push(request::piece(&fields, spare, k, room, &packet));
     }
 
     /// A new station, now and then after one of the other format, on which no key of ours is open.
     fn renew(&mut self) {
         if self.random.chance(300) {
-            self.new_station(self.format.other());
+            self.new_station(other(self.format));
             self.any_front();
             self.sound = false;
             self.any_call();
@@ -447,7 +440,7 @@ impl Writer {
 
     /// A request that the protocol rules out.
     fn malformed(&mut self) {
-        let key = Key::any(self.format, &mut self.random);
+        let key = any_key(self.format, &mut self.random);
         let place = self.random.below(16);
         let sound = [
             request::new(self.format),
@@ -485,11 +478,14 @@ impl Writer {
             4 => return request::lend(self.random.within(HELD + 1, 65_535)),
             5 => return request::store(self.random.within(1, 65_535), HELD),
             6 => return vec![request::RECEIVE],
-            7 => return request::piece(key, 0, 0, 13, &[])[..self.random.within(1, 9)].to_vec(),
+            7 => {
+                return request::piece(&key.fields, 0, 0, 13, &[])[..self.random.within(1, 9)]
+                    .to_vec()
+            }
             8 => return request::front(bad_format),
             9 => request::open(key, 0),
             10 => request::slot(0, self.random.below(4) as u8, 8, key, 0),
-            _ => request::piece(key, 0, 0, 13, &[1, 2, 3]),
+            _ => request::piece(&key.fields, 0, 0, 13, &[1, 2, 3]),
         };
         let place = match request[0] {
             request::OPEN => 2,
@@ -628,7 +624,7 @@ mod tests {
         for number in 0..200 {
             let profile = Profile::draw(&mut Random::new(number));
             let mut writer = Writer::new(Format::Standard, &profile, Random::new(number));
-            let key = Key::any(Format::Standard, &mut Random::new(number));
+            let key = any_key(Format::Standard, &mut Random::new(number));
             let request = writer.ruled_out(&key);
             let from = |place: usize| u16::from_be_bytes([request[place], request[place + 1]]);
             let ruled_out = match request[0] {

@@ -2,13 +2,13 @@
 //! that keeps lines back until more arrives, and one that needs a record to come in one read.
 
 use crate::program;
-use crate::random::Random;
 use crate::trace::Trace;
 use std::io::{self, BufRead, BufReader, ErrorKind, Read, Write};
 use std::process::Command;
 use std::sync::mpsc::{self, Receiver, RecvTimeoutError, Sender};
 use std::thread;
 use std::time::Duration;
+use testkit::Random;
 
 /// How long a line is waited for. It comes within a millisecond, or never.
 const PATIENCE: Duration = Duration::from_secs(10);

@@ -1,9 +1,10 @@
 //! Traces: records of arrived frames, and the kinds of damage a trace can have.
 
-use crate::frame::{different_keys, Format};
-use crate::random::Random;
-use crate::traffic::{Arrival, Noise, Sizes, Traffic};
+use second::format::Format;
 use std::io::{self, Read, Write};
+use testkit::keys::different_keys;
+use testkit::traffic::{Arrival, Noise, Sizes, Traffic};
+use testkit::Random;
 
 /// The kinds of damage, besides input that is empty and not damaged at all.
 pub const DAMAGES: [&str; 10] = [
@@ -125,7 +126,7 @@ impl Trace {
         let dense = random.below(400) == 0;
         let profile = Profile::draw(&mut random);
         let keys = different_keys(Format::Extended, profile.streams, &mut random);
-        let own = Random::new(random.next());
+        let own = Random::new(random.next_u64());
         let mut traffic = Traffic::new(&keys, profile.sizes, profile.noise, 13, own);
         let mut trace = Trace {
             bytes: Vec::new(),
@@ -138,7 +139,7 @@ impl Trace {
             trace.push_dense(&mut random);
         }
         for _ in 0..profile.records {
-            trace.push(&traffic.next());
+            trace.push(&traffic.next_frame());
         }
         if random.chance(300) {
             let kind = random.below(DAMAGES.len());

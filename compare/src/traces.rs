@@ -1,17 +1,17 @@
 //! Compares the listings of generated traces.
 
-use crate::corrupt::CORRUPTIONS;
 use crate::observe;
 use crate::program::{self, drip, take_all};
-use crate::random::Random;
 use crate::step::{self, Steps};
 use crate::tally::Tally;
 use crate::trace::{Trace, DAMAGES, DENSE};
-use crate::traffic::DISTURBANCES;
 use std::fs;
 use std::io::{self, Read, Write};
 use std::path::Path;
 use std::process::Command;
+use testkit::damage::CORRUPTIONS;
+use testkit::traffic::DISTURBANCES;
+use testkit::Random;
 
 const EMPTY: &str = "input: empty";
 const SMALL_PARTS: &str = "input: written in small parts";

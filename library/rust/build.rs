@@ -1,27 +1,32 @@
 //! Links libsiljuvatt.a from the folder that SILJUVATT_LIB names, or else from target/staticlib of the repository.
+//!
+//! The archive is needed to link and for nothing else: without it `cargo check`, `cargo clippy` and `cargo doc` go on,
+//! and `cargo build` fails with what to run.
 
 use std::env;
 use std::path::PathBuf;
-use std::process::exit;
 
 const VARIABLE: &str = "SILJUVATT_LIB";
 const ARCHIVE: &str = "libsiljuvatt.a";
 
 fn main() {
-    println!("cargo:rerun-if-env-changed={VARIABLE}");
     let folder = env::var_os(VARIABLE).map_or_else(default_folder, PathBuf::from);
     let archive = folder.join(ARCHIVE);
+    let mut library = "siljuvatt".to_owned();
     if !archive.is_file() {
-        eprintln!("siljuvatt: {} is not there.", archive.display());
-        eprintln!("Build it by: rt staticlib siljuvatt");
-        eprintln!(
-            "or name the folder that has it, as an absolute path: {VARIABLE}=FOLDER cargo build"
+        let what = format!("{} is not there", archive.display());
+        let help = format!(
+            "run rt staticlib siljuvatt, or name its folder by {VARIABLE}, as an absolute path"
         );
-        exit(1);
+        println!("cargo:warning={what}, so nothing can be linked: {help}");
+        // Cargo does not show each warning. What rustc does not find it names in its error, so the name says it too.
+        library.push_str(&format!(" ({help})"));
     }
+    // A file that is not there counts as changed, so its coming to be is seen.
     println!("cargo:rerun-if-changed={}", archive.display());
+    println!("cargo:rerun-if-env-changed={VARIABLE}");
     println!("cargo:rustc-link-search=native={}", folder.display());
-    println!("cargo:rustc-link-lib=static=siljuvatt");
+    println!("cargo:rustc-link-lib=static={library}");
 }
 
 fn default_folder() -> PathBuf {

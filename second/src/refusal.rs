@@ -1,8 +1,22 @@
 //! The refusal numbers.
 
-/// Why a call was refused; the discriminant is the number of document 01.
-#[derive(Clone, Copy, Debug, PartialEq, Eq)]
-pub enum Refusal {
+/// Makes the list of refusals an enum that can be gone through.
+macro_rules! refusals {
+    ($($name:ident = $number:literal,)*) => {
+        /// Why a call was refused; the discriminant is the number of document 01.
+        #[derive(Clone, Copy, Debug, PartialEq, Eq)]
+        pub enum Refusal {
+            $($name = $number,)*
+        }
+
+        impl Refusal {
+            /// Every refusal, in the order of the numbers.
+            pub const ALL: &'static [Refusal] = &[$(Refusal::$name,)*];
+        }
+    };
+}
+
+refusals! {
     Length = 1,
     Form = 2,
     Remote = 3,
@@ -31,6 +45,17 @@ impl Refusal {
     pub fn number(self) -> u8 {
         self as u8
     }
+
+    /// The name under which document 01 lists it.
+    pub fn name(self) -> String {
+        format!("{self:?}").to_uppercase()
+    }
+
+    /// The refusal of a number, if there is one.
+    pub fn of_number(number: u8) -> Option<Refusal> {
+        let mut all = Refusal::ALL.iter();
+        all.find(|refusal| refusal.number() == number).copied()
+    }
 }
 
 #[cfg(test)]
@@ -38,33 +63,21 @@ mod tests {
     use super::*;
 
     #[test]
-    fn numbers_are_those_of_the_table() {
-        let in_order = [
-            Refusal::Length,
-            Refusal::Form,
-            Refusal::Remote,
-            Refusal::Count,
-            Refusal::Piece,
-            Refusal::Orphan,
-            Refusal::Step,
-            Refusal::Long,
-            Refusal::Field,
-            Refusal::Size,
-            Refusal::Index,
-            Refusal::Room,
-            Refusal::Store,
-            Refusal::Taken,
-            Refusal::Full,
-            Refusal::Closed,
-            Refusal::NoPacket,
-            Refusal::Busy,
-            Refusal::Idle,
-            Refusal::NotAwaited,
-            Refusal::State,
-        ];
-        for (number, refusal) in (1..).zip(in_order) {
-            assert_eq!(refusal.number(), number);
+    fn numbers_go_up_and_are_told_apart() {
+        assert!(Refusal::ALL
+            .windows(2)
+            .all(|pair| pair[0].number() < pair[1].number()));
+        for &refusal in Refusal::ALL {
+            assert_eq!(Refusal::of_number(refusal.number()), Some(refusal));
         }
-        assert_eq!(in_order.len(), 21);
+        assert_eq!(Refusal::of_number(0), None);
+        assert_eq!(Refusal::of_number(255), None);
+    }
+
+    #[test]
+    fn names_are_those_of_document_01() {
+        assert_eq!(Refusal::Length.name(), "LENGTH");
+        assert_eq!(Refusal::NotAwaited.name(), "NOTAWAITED");
+        assert_eq!(Refusal::NoPacket.name(), "NOPACKET");
     }
 }

@@ -9,10 +9,17 @@ use crate::refusal::Refusal;
 pub fn piece_count(format: Format, size: usize) -> Result<usize, Refusal> {
     if size > format.packet_limit() {
         Err(Refusal::Size)
-    } else if size <= MAX_COUNT {
-        Ok(1)
     } else {
-        Ok(size.div_ceil(format.piece_size()))
+        Ok(pieces_for(format, size))
+    }
+}
+
+/// How many pieces hold so many bytes, also more than a packet may have.
+pub fn pieces_for(format: Format, size: usize) -> usize {
+    if size <= MAX_COUNT {
+        1
+    } else {
+        size.div_ceil(format.piece_size())
     }
 }
 
@@ -27,26 +34,25 @@ pub fn write_piece(
     if !fields.in_range() {
         return Err(Refusal::Field);
     }
-    let format = fields.format();
-    let count = piece_count(format, packet.len())?;
+    let count = piece_count(fields.format(), packet.len())?;
     if k >= count {
         return Err(Refusal::Index);
     }
-    let flag = flag_of(k, count);
-    let part = part_of(format, packet, flag, k);
-    // A standard image carries the number of a split piece as a data byte.
-    let number_size = usize::from(format == Format::Standard && flag != Flag::Single);
-    let head_size = format.header_size() + number_size;
-    let length = head_size + part.len();
-    if output.len() < length {
+    let image = piece(fields, packet, k);
+    if output.len() < image.len() {
         return Err(Refusal::Room);
     }
-    let data_count = (number_size + part.len()) as u8;
+    output[..image.len()].copy_from_slice(&image);
+    Ok(image.len())
+}
+
+/// The image of piece `k`, which there is. The packet may be one that is too
+/// long to be sent.
+pub fn piece(fields: &Fields, packet: &[u8], k: usize) -> Vec<u8> {
+    let format = fields.format();
+    let flag = flag_of(k, pieces_for(format, packet.len()));
     let number = format.piece_number(k) as u8;
-    let head = head_bytes(fields, flag, number, data_count);
-    output[..head_size].copy_from_slice(&head[..head_size]);
-    output[head_size..length].copy_from_slice(part);
-    Ok(length)
+    image(fields, flag, number, part_of(format, packet, flag, k))
 }
 
 /// The flag of piece `k` among `count`.
@@ -72,35 +78,41 @@ fn part_of(format: Format, packet: &[u8], flag: Flag, k: usize) -> &[u8] {
     &packet[k * size..end]
 }
 
-/// What stands before the packet bytes: five bytes in extended; in standard
-/// two, and the number as a third which a single piece leaves out.
-fn head_bytes(fields: &Fields, flag: Flag, number: u8, count: u8) -> [u8; 5] {
-    match *fields {
+/// The image with this flag, number and part of a packet, whether or not they
+/// go together.
+pub fn image(fields: &Fields, flag: Flag, number: u8, part: &[u8]) -> Vec<u8> {
+    let mut image = match *fields {
         Fields::Extended {
             priority,
             source,
             group,
             destination,
             function,
-        } => [
-            0x80 | count,
+        } => vec![
+            0x80 | part.len() as u8,
             priority << 6 | source,
             group << 6 | destination,
             flag.bits() << 6 | number,
             function << 3,
         ],
+        // The number of a piece that is no single is a data byte.
         Fields::Standard {
             priority,
             address,
             side,
-        } => [
-            priority << 6 | address,
-            side << 7 | flag.bits() << 5 | count,
-            number,
-            0,
-            0,
-        ],
-    }
+        } => {
+            let numbered = flag != Flag::Single;
+            let count = part.len() as u8 + u8::from(numbered);
+            let mut head = vec![
+                priority << 6 | address,
+                side << 7 | flag.bits() << 5 | count,
+            ];
+            head.extend(numbered.then_some(number));
+            head
+        }
+    };
+    image.extend_from_slice(part);
+    image
 }
 
 #[cfg(test)]
@@ -125,10 +137,26 @@ mod tests {
         (0..size).map(|i| (i * 7 + i / 256) as u8).collect()
     }
 
-    fn piece(fields: &Fields, packet: &[u8], k: usize) -> Vec<u8> {
+    #[test]
+    fn what_is_written_is_the_piece() {
+        let packet = packet(30);
         let mut output = [0; 13];
-        let length = write_piece(fields, packet, k, &mut output).unwrap();
-        output[..length].to_vec()
+        for fields in [EXTENDED, STANDARD] {
+            for k in 0..4 {
+                let length = write_piece(&fields, &packet, k, &mut output).unwrap();
+                assert_eq!(output[..length], piece(&fields, &packet, k));
+            }
+        }
+    }
+
+    #[test]
+    fn pieces_of_a_packet_too_long_to_be_sent() {
+        let packet = packet(2100);
+        assert_eq!(pieces_for(Format::Extended, 2100), 263);
+        let flag = |k| judge(Format::Extended, &piece(&EXTENDED, &packet, k)).map(|f| f.flag);
+        assert_eq!(flag(0), Ok(Flag::Start));
+        assert_eq!(flag(256), Ok(Flag::Middle));
+        assert_eq!(flag(262), Ok(Flag::End));
     }
 
     #[test]

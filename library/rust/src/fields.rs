@@ -1,5 +1,7 @@
 //! Formats, buses, and the fields of an identifier.
 
+use crate::numbers;
+
 /// One of the two frame formats. A station works in one.
 #[derive(Clone, Copy, Debug, PartialEq, Eq, Hash)]
 pub enum Format {
@@ -14,8 +16,8 @@ impl Format {
     #[must_use]
     pub const fn limit(self) -> usize {
         match self {
-            Format::Extended => 2048,
-            Format::Standard => 1792,
+            Format::Extended => numbers::EXTENDED_LIMIT,
+            Format::Standard => numbers::STANDARD_LIMIT,
         }
     }
 
@@ -23,15 +25,15 @@ impl Format {
     #[must_use]
     pub const fn image_size(self) -> usize {
         match self {
-            Format::Extended => 13,
-            Format::Standard => 10,
+            Format::Extended => numbers::EXTENDED_IMAGE,
+            Format::Standard => numbers::STANDARD_IMAGE,
         }
     }
 
     pub(crate) fn number(self) -> u8 {
         match self {
-            Format::Extended => 0,
-            Format::Standard => 1,
+            Format::Extended => numbers::EXTENDED,
+            Format::Standard => numbers::STANDARD,
         }
     }
 }
@@ -46,12 +48,15 @@ pub enum Bus {
 }
 
 impl Bus {
+    // A call on a state with this bus is refused: STATE if the state is not sound, else FIELD.
+    pub(crate) const NONE: u8 = 2;
+
     /// 0 for A, 1 for B, as in a trace.
     #[must_use]
     pub const fn number(self) -> u8 {
         match self {
-            Bus::A => 0,
-            Bus::B => 1,
+            Bus::A => numbers::BUS_A,
+            Bus::B => numbers::BUS_B,
         }
     }
 
@@ -65,8 +70,8 @@ impl Bus {
     #[must_use]
     pub const fn of_number(number: u8) -> Option<Bus> {
         match number {
-            0 => Some(Bus::A),
-            1 => Some(Bus::B),
+            numbers::BUS_A => Some(Bus::A),
+            numbers::BUS_B => Some(Bus::B),
             _ => None,
         }
     }
@@ -120,7 +125,7 @@ impl Fields {
     }
 
     /// The fields as the library takes them: five or three bytes at the head of an array, and how many.
-    pub(crate) fn bytes(&self) -> ([u8; 5], usize) {
+    pub(crate) fn bytes(&self) -> ([u8; numbers::EXTENDED_FIELDS], usize) {
         match *self {
             Fields::Extended {
                 priority,
@@ -128,12 +133,15 @@ impl Fields {
                 group,
                 destination,
                 function,
-            } => ([priority, source, group, destination, function], 5),
+            } => (
+                [priority, source, group, destination, function],
+                numbers::EXTENDED_FIELDS,
+            ),
             Fields::Standard {
                 priority,
                 address,
                 side,
-            } => ([priority, address, side, 0, 0], 3),
+            } => ([priority, address, side, 0, 0], numbers::STANDARD_FIELDS),
         }
     }
 }

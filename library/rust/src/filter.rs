@@ -1,6 +1,7 @@
 //! Acceptance filters, in extended format.
 
-use crate::ffi;
+use crate::numbers;
+use crate::raw::slices;
 
 /// What filters look at: ID.28 to ID.13, which are bytes 1 and 2 of an extended image. None if the image is shorter.
 #[must_use]
@@ -32,7 +33,7 @@ impl Filter {
     /// Whether each bit is the code's or has mask bit 1.
     #[must_use]
     pub fn accepts(self, id: u16) -> bool {
-        ffi::filter_accepts(self.code, self.mask, id)
+        slices::filter_accepts(self.code, self.mask, id)
     }
 }
 
@@ -47,16 +48,15 @@ impl Filter {
 /// assert!(!row.accepts(0x4700));
 /// ```
 #[derive(Clone, Copy, Debug, PartialEq, Eq, Hash)]
-pub struct Row(pub [u8; 8]);
+pub struct Row(pub [u8; Row::SIZE]);
 
 impl Row {
+    /// The bytes of a row.
+    pub const SIZE: usize = numbers::ROW_SIZE;
+
     /// Whether either filter of the pair accepts.
     #[must_use]
     pub fn accepts(self, id: u16) -> bool {
-        let answer = ffi::row_accepts(&self.0, id).accepted();
-        answer
-            .expect("a row of eight bytes is not refused")
-            .number()
-            == 1
+        slices::row_accepts(&self.0, id)
     }
 }

@@ -1,19 +1,14 @@
 //! A master's exchanges with its nodes over both buses.
 
-use crate::ffi;
-use crate::refusal::Answer;
+use crate::answer::Answer;
+use crate::numbers;
+use crate::raw::slices;
 use crate::{Bus, Refusal};
-use std::fmt;
-
-// A reply on no bus is refused: STATE if the master is not sound, else FIELD.
-const NO_BUS: u8 = 2;
-
-// The kinds of the library's answers.
-const SEND: u8 = 1;
-const DONE: u8 = 2;
+use core::fmt;
 
 /// The kind of an exchange.
 #[derive(Clone, Copy, Debug, PartialEq, Eq, Hash)]
+#[non_exhaustive]
 pub enum Kind {
     /// One send, with function 1; a reply has function 2.
     Poll,
@@ -26,9 +21,9 @@ pub enum Kind {
 impl Kind {
     fn number(self) -> u8 {
         match self {
-            Kind::Poll => 1,
-            Kind::DataBlock => 2,
-            Kind::Command => 3,
+            Kind::Poll => numbers::POLL,
+            Kind::DataBlock => numbers::DATA_BLOCK,
+            Kind::Command => numbers::COMMAND,
         }
     }
 }
@@ -36,6 +31,7 @@ impl Kind {
 /// What the master is to do next.
 #[derive(Clone, Copy, Debug, PartialEq, Eq)]
 #[must_use]
+#[non_exhaustive]
 pub enum Step {
     /// Send on this bus, then await a reply or a timeout.
     Send(Bus),
@@ -45,7 +41,8 @@ pub enum Step {
     GaveUp,
 }
 
-/// A master: the bus chosen for each of 64 nodes, and at most one exchange. It is 67 bytes and nothing else.
+/// A master: the bus chosen for each of 64 nodes, and at most one exchange. It is 68 bytes and nothing else;
+/// the last is the number of their layout.
 ///
 /// ```
 /// use siljuvatt::{Bus, Kind, Master, Refusal, Step};
@@ -66,14 +63,17 @@ pub struct Master {
 
 impl Master {
     /// The bytes of a master.
-    pub const SIZE: usize = 67;
+    pub const SIZE: usize = numbers::MASTER_SIZE;
+
+    /// The last of them: the number of their layout.
+    pub const LAYOUT: u8 = numbers::MASTER_LAYOUT;
 
     /// A master with bus A chosen for every node, and no exchange.
     #[must_use]
     pub fn new() -> Master {
         let mut bytes = [0; Master::SIZE];
-        let answer = ffi::master_new(&mut bytes).accepted();
-        answer.expect("bytes of this length are made a master");
+        // Only a library of another release refuses; zeros are no master, so every call on them is refused then.
+        let _ = slices::master_new(&mut bytes);
         Master { bytes }
     }
 
@@ -81,7 +81,7 @@ impl Master {
     ///
     /// # Errors
     ///
-    /// [`Refusal::State`] if they are no sound master.
+    /// [`Refusal::State`] if they are no sound master of this release's layout.
     ///
     /// ```
     /// use siljuvatt::{Bus, Kind, Master, Refusal, Step};
@@ -95,10 +95,9 @@ impl Master {
     /// ```
     pub fn from_bytes(bytes: &[u8]) -> Result<Master, Refusal> {
         let mut bytes: [u8; Master::SIZE] = bytes.try_into().map_err(|_| Refusal::State)?;
-        match ffi::master_reply(&mut bytes, NO_BUS, 0, 0).accepted() {
-            Err(Refusal::Field) => Ok(Master { bytes }),
-            _ => Err(Refusal::State),
-        }
+        let answer = slices::master_reply(&mut bytes, Bus::NONE, 0, 0);
+        Answer(answer).refused_as(Refusal::Field)?;
+        Ok(Master { bytes })
     }
 
     /// The bytes that the master is.
@@ -113,7 +112,8 @@ impl Master {
     ///
     /// In this order: [`Refusal::Field`], [`Refusal::Busy`].
     pub fn start(&mut self, kind: Kind, node: u8) -> Result<Step, Refusal> {
-        step_of(ffi::master_start(&mut self.bytes, kind.number(), node))
+        let answer = slices::master_start(&mut self.bytes, kind.number(), node);
+        step_of(Answer(answer))
     }
 
     /// A reply from a node has come in on a bus, with a function: [`Step::Done`] if it is the one awaited.
@@ -122,12 +122,8 @@ impl Master {
     ///
     /// In this order: [`Refusal::Field`], [`Refusal::Idle`], [`Refusal::NotAwaited`].
     pub fn reply(&mut self, bus: Bus, node: u8, function: u8) -> Result<Step, Refusal> {
-        step_of(ffi::master_reply(
-            &mut self.bytes,
-            bus.number(),
-            node,
-            function,
-        ))
+        let answer = slices::master_reply(&mut self.bytes, bus.number(), node, function);
+        step_of(Answer(answer))
     }
 
     /// No reply came in time: [`Step::Send`] again, or [`Step::GaveUp`].
@@ -136,18 +132,23 @@ impl Master {
     ///
     /// [`Refusal::Idle`].
     pub fn timeout(&mut self) -> Result<Step, Refusal> {
-        step_of(ffi::master_timeout(&mut self.bytes))
+        step_of(Answer(slices::master_timeout(&mut self.bytes)))
     }
 }
 
 fn step_of(answer: Answer) -> Result<Step, Refusal> {
     let answer = answer.accepted()?;
-    Ok(match answer.kind() {
-        SEND if answer.number() == 0 => Step::Send(Bus::A),
-        SEND => Step::Send(Bus::B),
-        DONE => Step::Done,
-        _ => Step::GaveUp,
-    })
+    let step = match answer.kind() {
+        numbers::SEND => bus_of(answer.number()).map(Step::Send),
+        numbers::DONE => Some(Step::Done),
+        numbers::GAVE_UP => Some(Step::GaveUp),
+        _ => None,
+    };
+    step.ok_or(answer.unknown())
+}
+
+fn bus_of(number: usize) -> Option<Bus> {
+    Bus::of_number(number.try_into().ok()?)
 }
 
 impl Default for Master {
@@ -159,5 +160,32 @@ impl Default for Master {
 impl fmt::Debug for Master {
     fn fmt(&self, f: &mut fmt::Formatter<'_>) -> fmt::Result {
         write!(f, "Master({:02X?})", self.bytes)
+    }
+}
+
+#[cfg(test)]
+mod tests {
+    use super::*;
+
+    #[test]
+    fn a_kind_or_a_bus_that_is_not_known_is_no_step() {
+        for kind in 0..=255 {
+            for number in 0..4 {
+                let answer = kind << 16 | number;
+                let expected = match (kind as u8, number) {
+                    (numbers::SEND, 0) => Ok(Step::Send(Bus::A)),
+                    (numbers::SEND, 1) => Ok(Step::Send(Bus::B)),
+                    (numbers::DONE, _) => Ok(Step::Done),
+                    (numbers::GAVE_UP, _) => Ok(Step::GaveUp),
+                    _ => Err(Refusal::Unknown(answer)),
+                };
+                assert_eq!(step_of(Answer(answer)), expected);
+            }
+        }
+        let send_on_bus_256 = u32::from(numbers::SEND) << 16 | 256;
+        assert_eq!(
+            step_of(Answer(send_on_bus_256)),
+            Err(Refusal::Unknown(send_on_bus_256))
+        );
     }
 }

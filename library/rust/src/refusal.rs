@@ -1,11 +1,12 @@
-//! The refusals of document 01, and the library's answers in 32 bits.
+//! The refusals of document 01.
 
-use std::error::Error;
-use std::fmt;
+use core::error::Error;
+use core::fmt;
 
 macro_rules! refusals {
     ($($name:ident = $number:literal, $text:literal, $says:literal;)*) => {
-        /// Why a call was refused: a number and a name of document 01.
+        /// Why a call was refused: a number and a name of document 01. Later releases add some, and numbers may have
+        /// gaps.
         ///
         /// ```
         /// use siljuvatt::Refusal;
@@ -16,20 +17,34 @@ macro_rules! refusals {
         /// assert_eq!(refusal.to_string(), "7 STEP: another number than awaited; the stream is idle now");
         /// ```
         #[derive(Clone, Copy, Debug, PartialEq, Eq, PartialOrd, Ord, Hash)]
-        #[repr(u8)]
+        #[non_exhaustive]
         pub enum Refusal {
-            $(#[doc = $says] $name = $number,)*
+            $(#[doc = $says] $name,)*
+            /// An answer that this release does not know, as the library gave it in 32 bits: the library that is linked
+            /// is of another release. From 2^31 on the call was refused, by a number that has no name here; below that
+            /// it was done, and was answered by a kind that has none.
+            Unknown(u32),
         }
 
         impl Refusal {
-            /// All of them, by their numbers.
-            pub const ALL: [Refusal; 21] = [$(Refusal::$name),*];
+            /// All that this release names, by their numbers.
+            pub const ALL: &'static [Refusal] = &[$(Refusal::$name),*];
 
-            /// The name in document 01.
+            /// The number in document 01. Of [`Refusal::Unknown`] it is the low 16 bits of the answer.
+            #[must_use]
+            pub fn number(self) -> u16 {
+                match self {
+                    $(Refusal::$name => $number,)*
+                    Refusal::Unknown(answer) => answer as u16,
+                }
+            }
+
+            /// The name in document 01, or `UNKNOWN`.
             #[must_use]
             pub fn name(self) -> &'static str {
                 match self {
                     $(Refusal::$name => $text,)*
+                    Refusal::Unknown(_) => "UNKNOWN",
                 }
             }
 
@@ -38,6 +53,7 @@ macro_rules! refusals {
             pub fn says(self) -> &'static str {
                 match self {
                     $(Refusal::$name => $says,)*
+                    Refusal::Unknown(_) => "no refusal of this release",
                 }
             }
         }
@@ -53,7 +69,7 @@ refusals! {
     Orphan = 6, "ORPHAN", "a middle or an end while its stream is not collecting";
     Step = 7, "STEP", "another number than awaited; the stream is idle now";
     Long = 8, "LONG", "the packet would pass 2,048 bytes; the stream is idle now";
-    Field = 9, "FIELD", "a field or node is out of range, or the fields are of another format";
+    Field = 9, "FIELD", "a format, field, bus, kind or node is out of range, or the fields are of another format";
     Size = 10, "SIZE", "the packet is over the format's limit";
     Index = 11, "INDEX", "there is no piece k";
     Room = 12, "ROOM", "the output is shorter than the image";
@@ -65,70 +81,39 @@ refusals! {
     Busy = 18, "BUSY", "a start during an exchange";
     Idle = 19, "IDLE", "a reply or a timeout with no exchange";
     NotAwaited = 20, "NOTAWAITED", "the reply does not count";
-    State = 21, "STATE", "the bytes are no sound station, master or watch";
-}
-
-impl Refusal {
-    /// The number in document 01, 1 to 21.
-    #[must_use]
-    pub fn number(self) -> u8 {
-        self as u8
-    }
+    State = 21, "STATE", "the bytes are no sound station, master or watch of this release's layout";
 }
 
 impl fmt::Display for Refusal {
     fn fmt(&self, f: &mut fmt::Formatter<'_>) -> fmt::Result {
-        write!(f, "{} {}: {}", self.number(), self.name(), self.says())
+        let (name, says) = (self.name(), self.says());
+        match self {
+            Refusal::Unknown(answer) => write!(f, "{name}: {says}, answer {answer:#010X}"),
+            _ => write!(f, "{} {name}: {says}", self.number()),
+        }
     }
 }
 
 impl Error for Refusal {}
 
-/// A number that is no refusal's.
+/// A number that is no refusal's in this release.
 #[derive(Clone, Copy, Debug, PartialEq, Eq)]
-pub struct NoRefusal(pub u8);
+pub struct NoRefusal(pub u16);
 
 impl fmt::Display for NoRefusal {
     fn fmt(&self, f: &mut fmt::Formatter<'_>) -> fmt::Result {
-        write!(f, "{} is the number of no refusal", self.0)
+        write!(f, "{} is the number of no refusal of this release", self.0)
     }
 }
 
 impl Error for NoRefusal {}
 
-impl TryFrom<u8> for Refusal {
+impl TryFrom<u16> for Refusal {
     type Error = NoRefusal;
 
-    fn try_from(number: u8) -> Result<Self, NoRefusal> {
-        let place = usize::from(number).wrapping_sub(1);
-        Refusal::ALL.get(place).copied().ok_or(NoRefusal(number))
-    }
-}
-
-/// An answer of the library: 2^31 and a number if refused; else a number of 16 bits, above it a kind, and 2^24 for
-/// "broke".
-#[derive(Clone, Copy)]
-pub(crate) struct Answer(pub u32);
-
-impl Answer {
-    /// The answer, unless it is a refusal.
-    pub fn accepted(self) -> Result<Answer, Refusal> {
-        if self.0 < 1 << 31 {
-            return Ok(self);
-        }
-        Err(Refusal::try_from((self.0 & 0xFF) as u8)
-            .expect("the library refuses by the numbers 1 to 21"))
-    }
-
-    pub fn number(self) -> usize {
-        (self.0 & 0xFFFF) as usize
-    }
-
-    pub fn kind(self) -> u8 {
-        (self.0 >> 16 & 0xFF) as u8
-    }
-
-    pub fn broke(self) -> bool {
-        self.0 >> 24 & 1 == 1
+    fn try_from(number: u16) -> Result<Self, NoRefusal> {
+        let mut all = Refusal::ALL.iter().copied();
+        all.find(|refusal| refusal.number() == number)
+            .ok_or(NoRefusal(number))
     }
 }

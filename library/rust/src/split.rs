@@ -1,10 +1,11 @@
 //! Splitting a packet into pieces, each the image of a frame.
 
-use crate::ffi;
+use crate::answer::Answer;
+use crate::raw::slices;
 use crate::{Fields, Format, Refusal};
-use std::fmt;
-use std::iter::FusedIterator;
-use std::ops::Deref;
+use core::fmt;
+use core::iter::FusedIterator;
+use core::ops::Deref;
 
 /// How many pieces a packet of `size` bytes is: 1 to 256.
 ///
@@ -18,7 +19,8 @@ use std::ops::Deref;
 /// assert_eq!(piece_count(Format::Standard, 1793), Err(Refusal::Size));
 /// ```
 pub fn piece_count(format: Format, size: usize) -> Result<usize, Refusal> {
-    Ok(ffi::piece_count(format.number(), size).accepted()?.number())
+    let answer = Answer(slices::piece_count(format.number(), size));
+    Ok(answer.accepted()?.number())
 }
 
 /// Writes the image of piece `k` of a packet over the head of the output and answers its length. The rest of the output
@@ -26,7 +28,8 @@ pub fn piece_count(format: Format, size: usize) -> Result<usize, Refusal> {
 ///
 /// # Errors
 ///
-/// In this order: [`Refusal::Field`], [`Refusal::Size`], [`Refusal::Index`], [`Refusal::Room`]. Nothing is written then.
+/// In this order: [`Refusal::Field`], [`Refusal::Size`], [`Refusal::Index`], [`Refusal::Room`]. Nothing is written
+/// then.
 ///
 /// ```
 /// use siljuvatt::{write_piece, Fields};
@@ -44,15 +47,17 @@ pub fn write_piece(
     output: &mut [u8],
 ) -> Result<usize, Refusal> {
     let (bytes, count) = fields.bytes();
-    let answer = ffi::write_piece(fields.format().number(), &bytes[..count], packet, k, output);
-    Ok(answer.accepted()?.number())
+    let format = fields.format().number();
+    let answer = slices::write_piece(format, &bytes[..count], packet, k, output);
+    Ok(Answer(answer).accepted()?.number())
 }
 
 /// The images of a packet's pieces, in the order in which they are sent.
 ///
 /// # Errors
 ///
-/// [`Refusal::Field`], or else [`Refusal::Size`]. There are none later on: every packet within the limit has its pieces.
+/// [`Refusal::Field`], or else [`Refusal::Size`]. There are none later on: every packet within the limit has its
+/// pieces.
 ///
 /// ```
 /// use siljuvatt::{pieces, Fields};

@@ -1,20 +1,18 @@
-//! A station: up to sixteen streams, and the store of their packets.
+//! A station: up to sixteen streams.
 
-use crate::ffi;
+use crate::answer::Answer;
+use crate::numbers;
+use crate::raw::slices;
 use crate::{Bus, Format, Key, Refusal};
-use std::fmt;
-use std::ops::{Deref, DerefMut};
+use core::fmt;
 
 // Over the last slot, so that closing it is refused: STATE if the station is not sound, else CLOSED.
-const NO_SLOT: usize = 16;
-
-// The kinds of the library's answers to a frame.
-const PACKET: u8 = 1;
-const KEPT: u8 = 2;
+const NO_SLOT: usize = Station::SLOTS;
 
 /// What became of a frame.
 #[derive(Clone, Copy, Debug, PartialEq, Eq)]
 #[must_use]
+#[non_exhaustive]
 pub enum Reply {
     /// The stream has a packet: [`Station::read`].
     Packet {
@@ -32,10 +30,10 @@ pub enum Reply {
     Filtered,
 }
 
-/// A station of one format with sixteen slots. It is 129 bytes and nothing else: it may be copied, written to a file and
-/// made again from its bytes, by this release or a later one.
+/// A station of one format with sixteen slots. It is 130 bytes and nothing else: it may be copied, written to a file
+/// and made again from its bytes. The last byte is the number of their layout: a release reads its own.
 ///
-/// Its packets lie in a store of 32,768 bytes that each call is lent: a [`Store`], or any slice.
+/// Its packets lie in a store of 32,768 bytes that each call is lent: a [`Store`](crate::Store), or any slice.
 ///
 /// ```
 /// use siljuvatt::{Bus, Fields, Format, Key, Refusal, Reply, Station, Store};
@@ -62,14 +60,20 @@ pub struct Station {
 
 impl Station {
     /// The bytes of a station.
-    pub const SIZE: usize = 129;
+    pub const SIZE: usize = numbers::STATION_SIZE;
+
+    /// The last of them: the number of their layout.
+    pub const LAYOUT: u8 = numbers::STATION_LAYOUT;
+
+    /// The slots of a station, numbered from 0 on.
+    pub const SLOTS: usize = numbers::SLOTS;
 
     /// A station whose slots are all closed.
     #[must_use]
     pub fn new(format: Format) -> Station {
         let mut bytes = [0; Station::SIZE];
-        let answer = ffi::station_new(&mut bytes, format.number()).accepted();
-        answer.expect("bytes of this length are made a station");
+        // Only a library of another release refuses; zeros are no station, so every call on them is refused then.
+        let _ = slices::station_new(&mut bytes, format.number());
         Station { bytes }
     }
 
@@ -77,7 +81,7 @@ impl Station {
     ///
     /// # Errors
     ///
-    /// [`Refusal::State`] if they are no sound station.
+    /// [`Refusal::State`] if they are no sound station of this release's layout.
     ///
     /// ```
     /// use siljuvatt::{Format, Refusal, Station};
@@ -88,10 +92,8 @@ impl Station {
     /// ```
     pub fn from_bytes(bytes: &[u8]) -> Result<Station, Refusal> {
         let mut bytes: [u8; Station::SIZE] = bytes.try_into().map_err(|_| Refusal::State)?;
-        match ffi::close(&mut bytes, NO_SLOT).accepted() {
-            Err(Refusal::Closed) => Ok(Station { bytes }),
-            _ => Err(Refusal::State),
-        }
+        Answer(slices::close(&mut bytes, NO_SLOT)).refused_as(Refusal::Closed)?;
+        Ok(Station { bytes })
     }
 
     /// The bytes that the station is.
@@ -119,8 +121,8 @@ impl Station {
     /// ```
     pub fn open(&mut self, key: Key) -> Result<usize, Refusal> {
         let (fields, count) = key.fields.bytes();
-        let answer = ffi::open(&mut self.bytes, key.bus.number(), &fields[..count]);
-        Ok(answer.accepted()?.number())
+        let answer = slices::open(&mut self.bytes, key.bus.number(), &fields[..count]);
+        Ok(Answer(answer).accepted()?.number())
     }
 
     /// Closes a slot. What lies in the store stays there.
@@ -129,7 +131,8 @@ impl Station {
     ///
     /// [`Refusal::Closed`].
     pub fn close(&mut self, slot: usize) -> Result<(), Refusal> {
-        ffi::close(&mut self.bytes, slot).accepted().map(drop)
+        let answer = slices::close(&mut self.bytes, slot);
+        Answer(answer).accepted().map(drop)
     }
 
     /// Receives the image of a frame on a bus. Only the area of the slot with the frame's key is written to.
@@ -139,16 +142,8 @@ impl Station {
     /// In this order: [`Refusal::Store`]; of the image [`Refusal::Length`], [`Refusal::Form`], [`Refusal::Remote`],
     /// [`Refusal::Count`], [`Refusal::Piece`]; of the stream [`Refusal::Orphan`], [`Refusal::Step`], [`Refusal::Long`].
     pub fn receive(&mut self, store: &mut [u8], bus: Bus, image: &[u8]) -> Result<Reply, Refusal> {
-        let answer = ffi::receive(&mut self.bytes, store, bus.number(), image).accepted()?;
-        let broke = answer.broke();
-        Ok(match answer.kind() {
-            PACKET => Reply::Packet {
-                length: answer.number(),
-                broke,
-            },
-            KEPT => Reply::Kept { broke },
-            _ => Reply::Filtered,
-        })
+        let answer = slices::receive(&mut self.bytes, store, bus.number(), image);
+        reply_of(Answer(answer))
     }
 
     /// The packet of a slot: the part of the store itself, with no copying.
@@ -170,10 +165,24 @@ impl Station {
     /// ```
     pub fn read<'s>(&self, store: &'s [u8], slot: usize) -> Result<&'s [u8], Refusal> {
         let mut start = 0;
-        let length = ffi::read(&self.bytes, store, slot, &mut start)
-            .accepted()?
-            .number();
-        Ok(&store[start..start + length])
+        let answer = slices::read(&self.bytes, store, slot, &mut start);
+        let answer = Answer(answer).accepted()?;
+        let packet = store.get(start..).and_then(|at| at.get(..answer.number()));
+        packet.ok_or(answer.unknown())
+    }
+}
+
+fn reply_of(answer: Answer) -> Result<Reply, Refusal> {
+    let answer = answer.accepted()?;
+    let broke = answer.broke();
+    match answer.kind() {
+        numbers::PACKET => Ok(Reply::Packet {
+            length: answer.number(),
+            broke,
+        }),
+        numbers::KEPT => Ok(Reply::Kept { broke }),
+        numbers::FILTERED => Ok(Reply::Filtered),
+        _ => Err(answer.unknown()),
     }
 }
 
@@ -183,60 +192,28 @@ impl fmt::Debug for Station {
     }
 }
 
-/// A store of 32,768 bytes on the heap, zero when new. It is used as the slice of them, so wherever a call takes a
-/// store, `&store` and `&mut store` will do, and so will any other slice of that length.
-///
-/// ```
-/// use siljuvatt::{Bus, Format, Refusal, Reply, Station, Store};
-///
-/// let mut station = Station::new(Format::Standard);
-/// let mut lent = vec![0u8; Store::SIZE];
-/// assert_eq!(station.receive(&mut lent, Bus::A, b"\x16\x60"), Ok(Reply::Filtered));
-/// assert_eq!(station.receive(&mut lent[1..], Bus::A, b"\x16\x60"), Err(Refusal::Store));
-/// ```
-#[derive(Clone, PartialEq, Eq)]
-pub struct Store {
-    bytes: Box<[u8]>,
-}
+#[cfg(test)]
+mod tests {
+    use super::*;
 
-impl Store {
-    /// The bytes of a store.
-    pub const SIZE: usize = 32_768;
-
-    /// The bytes of it that each slot owns: slot `i` those from 2,048 × `i` on.
-    pub const AREA_SIZE: usize = 2048;
-
-    /// A store of zeros.
-    #[must_use]
-    pub fn new() -> Store {
-        Store {
-            bytes: vec![0; Store::SIZE].into_boxed_slice(),
+    /// Every kind, with and without "broke".
+    #[test]
+    fn a_kind_that_is_not_known_is_no_reply() {
+        for kind in 0..=255 {
+            for broke in [false, true] {
+                let answer = u32::from(broke) << 24 | kind << 16 | 9;
+                let expected = match kind as u8 {
+                    numbers::PACKET => Ok(Reply::Packet { length: 9, broke }),
+                    numbers::KEPT => Ok(Reply::Kept { broke }),
+                    numbers::FILTERED => Ok(Reply::Filtered),
+                    _ => Err(Refusal::Unknown(answer)),
+                };
+                assert_eq!(reply_of(Answer(answer)), expected);
+            }
         }
-    }
-}
-
-impl Default for Store {
-    fn default() -> Store {
-        Store::new()
-    }
-}
-
-impl Deref for Store {
-    type Target = [u8];
-
-    fn deref(&self) -> &[u8] {
-        &self.bytes
-    }
-}
-
-impl DerefMut for Store {
-    fn deref_mut(&mut self) -> &mut [u8] {
-        &mut self.bytes
-    }
-}
-
-impl fmt::Debug for Store {
-    fn fmt(&self, f: &mut fmt::Formatter<'_>) -> fmt::Result {
-        f.debug_struct("Store").finish_non_exhaustive()
+        assert_eq!(
+            reply_of(Answer(0xFFFF_FFFF)),
+            Err(Refusal::Unknown(0xFFFF_FFFF))
+        );
     }
 }

@@ -1,4 +1,5 @@
 //! The examples of document 01, one by one.
+#![cfg(feature = "alloc")]
 
 mod common;
 
@@ -132,8 +133,8 @@ fn command_to_node_22() {
 
 #[test]
 fn silence() {
-    let neither = Silent { a: false, b: false };
-    let both = Silent { a: true, b: true };
+    let neither = Ok(Silent { a: false, b: false });
+    let both = Ok(Silent { a: true, b: true });
     assert_eq!(Watch::new(0).check(15_999), neither);
     assert_eq!(Watch::new(0).check(16_000), both);
     assert_eq!(Watch::new(4_294_967_000).check(15_703), neither);

@@ -1,8 +1,13 @@
-//! Filters, a master's exchanges, the watch, and the names of refusals.
+//! Filters, a master's exchanges, the watch, refusals and releases.
 
-use siljuvatt::{id_of, Bus, Filter, Kind, Master, NoRefusal, Refusal, Row, Silent, Step, Watch};
+use siljuvatt::{id_of, version, Version, VERSION};
+use siljuvatt::{Bus, Filter, Kind, Master, NoRefusal, Refusal, Row, Silent, Step, Watch};
 
-const NEITHER: Silent = Silent { a: false, b: false };
+const NEITHER: Result<Silent, Refusal> = silent(false, false);
+
+const fn silent(a: bool, b: bool) -> Result<Silent, Refusal> {
+    Ok(Silent { a, b })
+}
 
 fn send(bus: Bus) -> Result<Step, Refusal> {
     Ok(Step::Send(bus))
@@ -111,7 +116,10 @@ fn bytes_carry_a_master_over() {
     assert_eq!(again, master);
     assert_eq!(again.timeout(), send(Bus::A));
 
-    for (place, byte) in [(0, 2), (63, 255), (64, 4), (65, 64), (66, 0), (66, 4)] {
+    assert_eq!(master.as_bytes()[67], Master::LAYOUT);
+    let layouts = [0, 2, 255].map(|layout| (67, layout));
+    let parts = [(0, 2), (63, 255), (64, 4), (65, 64), (66, 0), (66, 4)];
+    for (place, byte) in parts.into_iter().chain(layouts) {
         let mut bytes = *master.as_bytes();
         bytes[place] = byte;
         assert_eq!(
@@ -120,23 +128,23 @@ fn bytes_carry_a_master_over() {
             "{place}"
         );
     }
-    assert_eq!(
-        Master::from_bytes(&master.as_bytes()[1..]).err(),
-        Some(Refusal::State)
-    );
+    let (zeros, long) = ([0; Master::SIZE], [0; Master::SIZE + 1]);
+    for none in [&master.as_bytes()[1..], &[], &zeros, &long] {
+        assert_eq!(Master::from_bytes(none).err(), Some(Refusal::State));
+    }
 }
 
 #[test]
 fn silence_is_told_bus_by_bus_and_once() {
     let mut watch = Watch::new(1_000);
-    watch.heard(Bus::A, 9_000);
+    assert_eq!(watch.heard(Bus::A, 9_000), Ok(()));
     assert_eq!(watch.check(16_999), NEITHER);
-    assert_eq!(watch.check(17_000), Silent { a: false, b: true });
+    assert_eq!(watch.check(17_000), silent(false, true));
     assert_eq!(watch.check(24_999), NEITHER);
-    assert_eq!(watch.check(25_000), Silent { a: true, b: false });
+    assert_eq!(watch.check(25_000), silent(true, false));
     assert_eq!(
         watch.check(33_000),
-        Silent { a: false, b: true },
+        silent(false, true),
         "16,000 after it was told"
     );
 }
@@ -148,7 +156,7 @@ fn a_clock_behind_reads_as_a_long_silence() {
         let now = last.wrapping_sub(behind);
         assert_eq!(
             Watch::new(last).check(now),
-            Silent { a: true, b: true },
+            silent(true, true),
             "{behind} behind"
         );
     }
@@ -160,11 +168,14 @@ fn a_clock_behind_reads_as_a_long_silence() {
 #[test]
 fn bytes_carry_a_watch_over() {
     let watch = Watch::new(77);
-    assert_eq!(Watch::from_bytes(watch.as_bytes()), Ok(watch.clone()));
-    assert_eq!(
-        Watch::from_bytes(&watch.as_bytes()[1..]).err(),
-        Some(Refusal::State)
-    );
+    let bytes = *watch.as_bytes();
+    assert_eq!(Watch::from_bytes(&bytes), Ok(watch));
+    assert_eq!(bytes[8], Watch::LAYOUT);
+    let layouts = [0, 2, 255].map(|layout| [&bytes[..8], &[layout]].concat());
+    let lengths = [vec![], bytes[1..].to_vec(), [&bytes[..], &[1]].concat()];
+    for none in layouts.iter().chain(&lengths) {
+        assert_eq!(Watch::from_bytes(none).err(), Some(Refusal::State));
+    }
 }
 
 /// Each bit by itself: it is looked at where its mask bit is 0.
@@ -216,23 +227,46 @@ fn id_is_bytes_1_and_2() {
     assert_eq!(id_of(b"\x81\x45"), None);
 }
 
+/// What they are is in the header, to which this crate's are held by a test of the library.
 #[test]
-fn refusals_have_document_01s_numbers_and_names() {
-    let names = "LENGTH FORM REMOTE COUNT PIECE ORPHAN STEP LONG FIELD SIZE INDEX ROOM STORE TAKEN FULL CLOSED NOPACKET BUSY \
-                 IDLE NOTAWAITED STATE";
-    let names: Vec<_> = names.split_whitespace().collect();
-    assert_eq!(names.len(), Refusal::ALL.len());
-    for (number, name) in (1..).zip(names) {
-        let refusal = Refusal::try_from(number).unwrap();
-        assert_eq!((refusal.number(), refusal.name()), (number, name));
+fn refusals_are_found_by_their_numbers() {
+    let mut last = 0;
+    for &refusal in Refusal::ALL {
+        let (number, name) = (refusal.number(), refusal.name());
+        assert!(number > last, "{refusal} stands behind {last}");
+        last = number;
+        assert_eq!(Refusal::try_from(number), Ok(refusal));
         assert_eq!(format!("{refusal:?}").to_uppercase(), name);
-        assert!(refusal
-            .to_string()
-            .starts_with(&format!("{number} {name}: ")));
+        let text = format!("{number} {name}: {}", refusal.says());
+        assert_eq!(refusal.to_string(), text);
     }
-    for number in [0, 22, 255] {
+    for number in [0, last + 1, 256 + last, u16::MAX] {
         assert_eq!(Refusal::try_from(number), Err(NoRefusal(number)));
     }
     let error: Box<dyn std::error::Error> = Box::new(Refusal::Orphan);
     assert!(error.to_string().starts_with("6 ORPHAN"));
+}
+
+#[test]
+fn an_answer_that_is_not_known_is_told_with_its_number() {
+    let unknown = Refusal::Unknown(0x8000_0063);
+    assert_eq!((unknown.number(), unknown.name()), (99, "UNKNOWN"));
+    assert_eq!(
+        unknown.to_string(),
+        "UNKNOWN: no refusal of this release, answer 0x80000063"
+    );
+    assert!(!Refusal::ALL.contains(&unknown));
+}
+
+#[test]
+fn the_library_that_is_linked_is_of_this_release() {
+    assert_eq!(version(), VERSION);
+    assert_eq!(VERSION.to_string(), env!("CARGO_PKG_VERSION"));
+    let other = Version {
+        major: 258,
+        minor: 3,
+        patch: 4,
+    };
+    assert_eq!(other.number(), 0x0102_0304);
+    assert!(other > VERSION);
 }

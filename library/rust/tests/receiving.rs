@@ -1,4 +1,5 @@
 //! Document 01's rules on receiving, one by one, in both formats.
+#![cfg(feature = "alloc")]
 
 mod common;
 

@@ -1,4 +1,5 @@
 //! Splitting, and what is split comes out whole.
+#![cfg(feature = "alloc")]
 
 mod common;
 

@@ -1,11 +1,12 @@
 //! Slots, and many streams at once.
+#![cfg(feature = "alloc")]
 
 mod common;
 
 use common::{extended_fields, fields, image, packet, split, standard_fields, whole, BOTH, SINGLE};
 use siljuvatt::{Bus, Fields, Format, Key, Refusal, Reply, Station, Store};
 
-const SLOTS: u8 = 16;
+const SLOTS: u8 = Station::SLOTS as u8;
 
 fn key(source: u8) -> Key {
     Key {
@@ -281,10 +282,18 @@ fn bytes_that_are_no_sound_station_are_refused() {
     assert_eq!(Station::from_bytes(&sound[1..]).err(), Some(Refusal::State));
     assert_eq!(Station::from_bytes(&[]).err(), Some(Refusal::State));
     assert_eq!(
+        Station::from_bytes(&[0; Station::SIZE]).err(),
+        Some(Refusal::State)
+    );
+    assert_eq!(
         Station::from_bytes(&[0; Station::SIZE + 1]).err(),
         Some(Refusal::State)
     );
     refused(&|bytes| bytes[128] = 2); // a format that is none
+    assert_eq!(sound[129], Station::LAYOUT);
+    for layout in [0, 2, 255] {
+        refused(&|bytes| bytes[129] = layout); // another layout
+    }
     refused(&|bytes| bytes[1] = 64); // a source out of range
     refused(&|bytes| bytes.copy_within(0..8, 8)); // one key in two slots
     refused(&|bytes| bytes[6] = 4); // a progress that is none

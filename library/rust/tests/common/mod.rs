@@ -1,22 +1,18 @@
-//! Images written out by hand from document 01's tables, so that the tests do not lean on the library's own splitting.
+//! Pieces as the second program makes them, so that the tests do not lean on the library's own splitting, and a station
+//! with one stream.
 #![allow(dead_code)]
 
+use second::frame::Flag;
+use second::{format, key, refusal, split};
 use siljuvatt::{Bus, Fields, Format, Key, Refusal, Reply, Station, Store};
+use testkit::Random;
 
-pub const MIDDLE: u8 = 0;
-pub const START: u8 = 1;
-pub const END: u8 = 2;
-pub const SINGLE: u8 = 3;
+pub const MIDDLE: Flag = Flag::Middle;
+pub const START: Flag = Flag::Start;
+pub const END: Flag = Flag::End;
+pub const SINGLE: Flag = Flag::Single;
 
 pub const BOTH: [Format; 2] = [Format::Extended, Format::Standard];
-
-/// Packet bytes in a piece that is not the last.
-pub fn piece_size(format: Format) -> usize {
-    match format {
-        Format::Extended => 8,
-        Format::Standard => 7,
-    }
-}
 
 pub fn fields(format: Format) -> Fields {
     match format {
@@ -43,9 +39,16 @@ pub fn standard_fields(address: u8) -> Fields {
     }
 }
 
-/// The image of a piece by Tables 7 to 10 and 13 to 16. The number is taken as it is.
-pub fn image(fields: Fields, flag: u8, number: u8, data: &[u8]) -> Vec<u8> {
-    let count = data.len() as u8;
+/// The format in the second program.
+pub fn second_format(format: Format) -> format::Format {
+    match format {
+        Format::Extended => format::Format::Extended,
+        Format::Standard => format::Format::Standard,
+    }
+}
+
+/// The fields in the second program.
+pub fn second_fields(fields: Fields) -> key::Fields {
     match fields {
         Fields::Extended {
             priority,
@@ -53,59 +56,82 @@ pub fn image(fields: Fields, flag: u8, number: u8, data: &[u8]) -> Vec<u8> {
             group,
             destination,
             function,
-        } => {
-            let head = [
-                0x80 | count,
-                priority << 6 | source,
-                group << 6 | destination,
-                flag << 6 | number,
-                function << 3,
-            ];
-            [&head[..], data].concat()
-        }
+        } => key::Fields::Extended {
+            priority,
+            source,
+            group,
+            destination,
+            function,
+        },
         Fields::Standard {
             priority,
             address,
             side,
-        } => {
-            let place = if flag == SINGLE { vec![] } else { vec![number] };
-            let count = count + place.len() as u8;
-            let head = [priority << 6 | address, side << 7 | flag << 5 | count];
-            [&head[..], &place, data].concat()
-        }
+        } => key::Fields::Standard {
+            priority,
+            address,
+            side,
+        },
     }
 }
 
-/// A packet's pieces by document 01's rules on splitting.
+/// The key of one in the second program.
+pub fn key_of(key: &key::Key) -> Key {
+    let bus = Bus::of_number(key.bus).expect("a bus in range");
+    let fields = match key.fields {
+        key::Fields::Extended {
+            priority,
+            source,
+            group,
+            destination,
+            function,
+        } => Fields::Extended {
+            priority,
+            source,
+            group,
+            destination,
+            function,
+        },
+        key::Fields::Standard {
+            priority,
+            address,
+            side,
+        } => Fields::Standard {
+            priority,
+            address,
+            side,
+        },
+    };
+    Key { bus, fields }
+}
+
+/// The refusal of one in the second program.
+pub fn refusal_of(refusal: refusal::Refusal) -> Refusal {
+    Refusal::try_from(u16::from(refusal.number())).expect("a number that both have")
+}
+
+/// Packet bytes in a piece that is not the last.
+pub fn piece_size(format: Format) -> usize {
+    second_format(format).piece_size()
+}
+
+/// The image of a piece, whether or not flag, number and bytes go together.
+pub fn image(fields: Fields, flag: Flag, number: u8, data: &[u8]) -> Vec<u8> {
+    split::image(&second_fields(fields), flag, number, data)
+}
+
+/// A packet's pieces.
 pub fn split(fields: Fields, packet: &[u8]) -> Vec<Vec<u8>> {
-    if packet.len() <= 8 {
-        return vec![image(fields, SINGLE, 0, packet)];
-    }
-    let parts: Vec<&[u8]> = packet.chunks(piece_size(fields.format())).collect();
-    let last = parts.len() - 1;
-    let modulus = if fields.format() == Format::Extended {
-        64
-    } else {
-        256
-    };
-    let piece = |(k, part): (usize, &&[u8])| {
-        let flag = if k == 0 {
-            START
-        } else if k == last {
-            END
-        } else {
-            MIDDLE
-        };
-        image(fields, flag, (k % modulus) as u8, part)
-    };
-    parts.iter().enumerate().map(piece).collect()
+    let fields = second_fields(fields);
+    let count = split::piece_count(fields.format(), packet.len()).expect("a packet in range");
+    (0..count)
+        .map(|k| split::piece(&fields, packet, k))
+        .collect()
 }
 
-/// That many bytes, no two neighbours alike, and no packet of a seed like that of another.
+/// That many bytes, others for each seed.
 pub fn packet(size: usize, seed: usize) -> Vec<u8> {
-    (0..size)
-        .map(|i| (i * 7 + i / 251 + seed * 31) as u8)
-        .collect()
+    Random::of_item(1, seed as u64).bytes(size)
 }
 
 /// A station with one stream in slot 0, and its store.
@@ -130,7 +156,7 @@ impl Bench {
     }
 
     /// A piece of the stream arrives.
-    pub fn hear(&mut self, flag: u8, number: u8, data: &[u8]) -> Result<Reply, Refusal> {
+    pub fn hear(&mut self, flag: Flag, number: u8, data: &[u8]) -> Result<Reply, Refusal> {
         let image = image(self.fields, flag, number, data);
         self.receive(&image)
     }
@@ -155,16 +181,12 @@ impl Bench {
 
     /// The stream, which is not collecting, starts and is fed whole pieces until `size` bytes are held.
     pub fn collect(&mut self, size: usize) {
-        let piece = piece_size(self.fields.format());
-        let modulus = if piece == 8 { 64 } else { 256 };
+        let format = second_format(self.fields.format());
         let bytes = packet(size, 0);
-        for (k, part) in bytes.chunks_exact(piece).enumerate() {
+        for (k, part) in bytes.chunks_exact(format.piece_size()).enumerate() {
             let flag = if k == 0 { START } else { MIDDLE };
-            assert_eq!(
-                self.hear(flag, (k % modulus) as u8, part),
-                kept(),
-                "piece {k}"
-            );
+            let number = format.piece_number(k) as u8;
+            assert_eq!(self.hear(flag, number, part), kept(), "piece {k}");
         }
     }
 }

@@ -1,11 +1,17 @@
 //! Frames of several streams as they arrive: packets in pieces, interleaved, with disturbances.
 
-use crate::corrupt::corrupt;
-use crate::frame::{image, is_start, piece, piece_count, Format, Key, END, MIDDLE};
+use second::format::Format;
+use second::frame::Flag;
+use second::key::Key;
+use second::split::{image, piece, pieces_for};
+use second::station::{Slot, Station};
+use second::stream::State;
+
+use crate::damage::corrupt;
 use crate::random::Random;
 
 /// How long the packets of a run are.
-#[derive(Clone, Copy)]
+#[derive(Clone, Copy, Debug)]
 pub enum Sizes {
     Single,
     Short,
@@ -19,7 +25,7 @@ pub enum Sizes {
 
 impl Sizes {
     fn draw(self, format: Format, random: &mut Random) -> usize {
-        let limit = format.limit();
+        let limit = format.packet_limit();
         match self {
             Sizes::Single => random.within(0, 8),
             Sizes::Short => random.within(0, 64),
@@ -49,6 +55,7 @@ pub struct Noise {
     pub repeated: usize,
     pub restarted: usize,
     pub stray: usize,
+    pub any_piece: usize,
     pub priority: usize,
     pub corrupt: usize,
 }
@@ -61,6 +68,7 @@ impl Noise {
             repeated: times,
             restarted: times,
             stray: times,
+            any_piece: times,
             priority: times,
             corrupt: times,
         }
@@ -72,6 +80,7 @@ impl Noise {
             (self.repeated, Disturbance::Repeated),
             (self.restarted, Disturbance::Restarted),
             (self.stray, Disturbance::Stray),
+            (self.any_piece, Disturbance::AnyPiece),
             (self.priority, Disturbance::Priority),
             (self.corrupt, Disturbance::Corrupt),
         ];
@@ -93,17 +102,19 @@ enum Disturbance {
     Repeated,
     Restarted,
     Stray,
+    AnyPiece,
     Priority,
     Corrupt,
 }
 
 /// What is noted of an arrival besides the corruptions.
-pub const DISTURBANCES: [&str; 6] = [
+pub const DISTURBANCES: [&str; 7] = [
     "frame lost before this one",
     "frame repeated",
     "start repeated",
     "packet abandoned",
     "stray piece",
+    "any flag, number and count",
     "other priority",
 ];
 
@@ -150,7 +161,7 @@ impl Traffic {
             next: 0,
         });
         Traffic {
-            format: keys[0].format,
+            format: keys[0].fields.format(),
             streams: streams.collect(),
             sizes,
             noise,
@@ -161,7 +172,7 @@ impl Traffic {
     }
 
     /// The next frame.
-    pub fn next(&mut self) -> Arrival {
+    pub fn next_frame(&mut self) -> Arrival {
         // A repeated frame comes at once or after some others.
         if self.again.is_some() && self.random.chance(500) {
             return self.again.take().expect("it is there");
@@ -176,8 +187,30 @@ impl Traffic {
             Disturbance::Repeated => self.repeated(place),
             Disturbance::Restarted => self.restarted(place),
             Disturbance::Stray => self.stray(place),
+            Disturbance::AnyPiece => self.any_piece(place),
             Disturbance::Priority => self.other_priority(place),
             Disturbance::Corrupt => self.corrupted(place),
+        }
+    }
+
+    /// Makes a stream that the station lost begin anew, now and then, as the rest of its packet is refused frame by
+    /// frame.
+    pub fn give_up_lost(&mut self, station: &Station) {
+        for stream in &mut self.streams {
+            let lost = stream.next > 0 && collecting(station, &stream.key).is_none();
+            if lost && self.random.chance(300) {
+                stream.next = 0;
+            }
+        }
+    }
+
+    /// Makes every stream that the station collects go on from where it is.
+    pub fn follow(&mut self, station: &Station) {
+        let keys: Vec<Key> = self.streams.iter().map(|stream| stream.key).collect();
+        for key in keys {
+            if let Some(held) = collecting(station, &key) {
+                self.go_on_from(&key, held / self.format.piece_size());
+            }
         }
     }
 
@@ -186,7 +219,7 @@ impl Traffic {
         let Some(stream) = self.streams.iter_mut().find(|stream| stream.key == *key) else {
             return;
         };
-        let (held, limit) = (k * key.format.piece_size(), key.format.limit());
+        let (held, limit) = (k * self.format.piece_size(), self.format.packet_limit());
         let mut size = self.random.within(held + 1, held + 40);
         if (held + 1..held + 40).contains(&limit) && self.random.chance(500) {
             size = limit;
@@ -203,8 +236,8 @@ impl Traffic {
             let size = self.sizes.draw(self.format, &mut self.random);
             stream.packet = self.random.bytes(size);
         }
-        let image = piece(&stream.key, &stream.packet, stream.next);
-        let count = piece_count(self.format, stream.packet.len());
+        let image = piece(&stream.key.fields, &stream.packet, stream.next);
+        let count = pieces_for(self.format, stream.packet.len());
         stream.next = (stream.next + 1) % count;
         Arrival {
             bus: stream.key.bus,
@@ -215,11 +248,8 @@ impl Traffic {
 
     fn repeated(&mut self, place: usize) -> Arrival {
         let arrival = self.frame(place);
-        let note = if is_start(self.format, &arrival.image) {
-            DISTURBANCES[2]
-        } else {
-            DISTURBANCES[1]
-        };
+        let is_start = self.streams[place].next == 1;
+        let note = DISTURBANCES[if is_start { 2 } else { 1 }];
         self.again = Some(arrival.clone().noted(note));
         arrival
     }
@@ -232,7 +262,7 @@ impl Traffic {
         }
         if self.random.chance(500) {
             stream.next = 1;
-            let image = piece(&stream.key, &stream.packet, 0);
+            let image = piece(&stream.key.fields, &stream.packet, 0);
             let bus = stream.key.bus;
             let note = Some(DISTURBANCES[2]);
             return Arrival { bus, image, note };
@@ -246,16 +276,38 @@ impl Traffic {
         let key = self.streams[place].key;
         let full = self.format.piece_size();
         let (flag, size) = if self.random.chance(300) {
-            (MIDDLE, full)
+            (Flag::Middle, full)
         } else {
-            (END, self.random.within(2, full))
+            (Flag::End, self.random.within(2, full))
         };
         let number = self.random.within(1, 63) as u8;
         let data = self.random.bytes(size);
         Arrival {
             bus: key.bus,
-            image: image(&key, flag, number, &data),
+            image: image(&key.fields, flag, number, &data),
             note: Some(DISTURBANCES[4]),
+        }
+    }
+
+    /// A piece with any flag, number and count, so that each rule on these is kept and broken.
+    fn any_piece(&mut self, place: usize) -> Arrival {
+        let key = self.streams[place].key;
+        let random = &mut self.random;
+        let flag = random.pick(&[Flag::Start, Flag::Middle, Flag::End, Flag::Single]);
+        let any = random.byte();
+        let number = random.pick(&[0, 1, 1, 2, 63, 64, 254, 255, any]);
+        let number = self.format.piece_number(number.into()) as u8;
+        // The standard number takes a byte of eight, but not in a single.
+        let most = match flag {
+            Flag::Single => 8,
+            _ => self.format.piece_size(),
+        };
+        let size = random.within(0, most);
+        let part = random.bytes(size);
+        Arrival {
+            bus: key.bus,
+            image: image(&key.fields, flag, number, &part),
+            note: Some(DISTURBANCES[5]),
         }
     }
 
@@ -267,7 +319,7 @@ impl Traffic {
             Format::Standard => 0,
         };
         arrival.image[byte] ^= (self.random.within(1, 3) as u8) << 6;
-        arrival.noted(DISTURBANCES[5])
+        arrival.noted(DISTURBANCES[6])
     }
 
     fn corrupted(&mut self, place: usize) -> Arrival {
@@ -278,10 +330,22 @@ impl Traffic {
     }
 }
 
+/// How many bytes a station holds of a packet of that key that it is collecting.
+fn collecting(station: &Station, key: &Key) -> Option<usize> {
+    station.slots.iter().find_map(|slot| match slot {
+        Slot::Open {
+            key: own,
+            state: State::Collecting(held),
+        } if own == key => Some(*held),
+        _ => None,
+    })
+}
+
 #[cfg(test)]
 mod tests {
     use super::*;
-    use crate::frame::{different_keys, FORMATS};
+    use crate::keys::{different_keys, FORMATS};
+    use second::frame::judge;
 
     fn traffic(format: Format, streams: usize, sizes: Sizes, noise: Noise) -> Traffic {
         let mut random = Random::new(11);
@@ -289,17 +353,19 @@ mod tests {
         Traffic::new(&keys, sizes, noise, 13, random)
     }
 
+    fn next_flag(traffic: &mut Traffic) -> Flag {
+        let image = traffic.next_frame().image;
+        judge(traffic.format, &image).expect("a sound frame").flag
+    }
+
     #[test]
-    fn quiet_traffic_is_whole_packets_in_order() {
+    fn undisturbed_traffic_is_whole_packets() {
         for format in FORMATS {
             let mut traffic = traffic(format, 1, Sizes::NearLimit, Noise::default());
-            let starts: Vec<usize> = (0..1000)
-                .filter(|_| is_start(format, &traffic.next().image))
-                .collect();
-            assert!(starts.len() >= 3);
-            for pair in starts.windows(2) {
-                assert!((253..=256).contains(&(pair[1] - pair[0])));
-            }
+            let starts = (0..2560)
+                .filter(|_| next_flag(&mut traffic) == Flag::Start)
+                .count();
+            assert!((10..=11).contains(&starts), "{starts}");
         }
     }
 
@@ -307,10 +373,17 @@ mod tests {
     fn noisy_traffic_has_every_disturbance() {
         for format in FORMATS {
             let mut traffic = traffic(format, 5, Sizes::Short, Noise::even(50));
-            let notes: Vec<_> = (0..5000).filter_map(|_| traffic.next().note).collect();
+            let mut notes = Vec::new();
+            let mut refused = 0;
+            for _ in 0..5000 {
+                let arrival = traffic.next_frame();
+                notes.extend(arrival.note);
+                refused += usize::from(judge(format, &arrival.image).is_err());
+            }
             for name in DISTURBANCES {
                 assert!(notes.contains(&name), "{name}");
             }
+            assert!((50..1000).contains(&refused), "{refused}");
         }
     }
 
@@ -319,8 +392,35 @@ mod tests {
         let mut traffic = traffic(Format::Extended, 1, Sizes::Short, Noise::default());
         let key = traffic.streams[0].key;
         traffic.go_on_from(&key, 64);
-        let image = traffic.next().image;
-        assert_eq!(image[3] & 63, 0);
-        assert!(!is_start(Format::Extended, &image));
+        let image = traffic.next_frame().image;
+        let frame = judge(Format::Extended, &image).unwrap();
+        assert_eq!(frame.number, 0);
+        assert_ne!(frame.flag, Flag::Start);
+    }
+
+    #[test]
+    fn lost_streams_begin_anew() {
+        let mut traffic = traffic(Format::Standard, 1, Sizes::NearLimit, Noise::default());
+        traffic.next_frame();
+        traffic.next_frame();
+        for _ in 0..100 {
+            traffic.give_up_lost(&Station::new(Format::Standard));
+        }
+        assert_eq!(next_flag(&mut traffic), Flag::Start);
+    }
+
+    #[test]
+    fn streams_follow_a_station() {
+        let mut traffic = traffic(Format::Extended, 1, Sizes::Short, Noise::default());
+        let mut station = Station::new(Format::Extended);
+        station.slots[7] = Slot::Open {
+            key: traffic.streams[0].key,
+            state: State::Collecting(65 * 8),
+        };
+        traffic.follow(&station);
+        let image = traffic.next_frame().image;
+        let frame = judge(Format::Extended, &image).unwrap();
+        assert_eq!(frame.number, 1);
+        assert!(matches!(frame.flag, Flag::Middle | Flag::End));
     }
 }

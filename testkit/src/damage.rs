@@ -1,6 +1,7 @@
 //! Images made wrong in one of several ways.
 
-use crate::frame::Format;
+use second::format::Format;
+
 use crate::random::Random;
 
 /// What can be wrong with an image; "fixed bits wrong" in extended only.
@@ -16,7 +17,17 @@ pub const CORRUPTIONS: [&str; 9] = [
     "fixed bits wrong",
 ];
 
-/// Makes the image wrong in some way and names the way. No image becomes longer than `longest`.
+/// Lengths of images up to this come up as often as each other; the longest sound one has 13 bytes.
+const NEAR: usize = 20;
+
+/// Lengths that 8 or 16 bits take for sound ones.
+const FAR: [usize; 4] = [261, 269, 65_536 + 5, 65_536 + 13];
+
+/// The longest image that damage makes, where nothing else bounds it.
+pub const LONGEST: usize = 65_536 + 13;
+
+/// Makes a whole image wrong in some way and names the way; it may still be one that is received. No image becomes
+/// longer than `longest`.
 pub fn corrupt(
     image: &mut Vec<u8>,
     format: Format,
@@ -90,18 +101,23 @@ fn change_number(image: &mut Vec<u8>, format: Format, random: &mut Random) {
 
 fn change_length(image: &mut Vec<u8>, longest: usize, random: &mut Random) {
     let fill = random.byte();
-    image.resize(random.within(0, longest), fill);
+    let far = random.pick(&FAR);
+    let length = match far <= longest && random.chance(150) {
+        true => far,
+        false => random.within(0, longest.min(NEAR)),
+    };
+    image.resize(length, fill);
 }
 
 /// Cuts data bytes off and gives the count that belongs to it.
 fn shorten(image: &mut Vec<u8>, format: Format, random: &mut Random) {
-    image.truncate(random.within(format.header(), image.len()));
+    image.truncate(random.within(format.header_size(), image.len()));
     let byte = count_byte(format);
-    image[byte] = image[byte] & 0xF0 | (image.len() - format.header()) as u8;
+    image[byte] = image[byte] & 0xF0 | (image.len() - format.header_size()) as u8;
 }
 
 fn random_bytes(longest: usize, random: &mut Random) -> Vec<u8> {
-    let size = random.within(0, longest);
+    let size = random.within(0, longest.min(NEAR));
     random.bytes(size)
 }
 
@@ -116,21 +132,71 @@ fn break_fixed_bits(image: &mut [u8], random: &mut Random) {
 #[cfg(test)]
 mod tests {
     use super::*;
-    use crate::frame::{image, Key, END, FORMATS, MIDDLE, SINGLE, START};
+    use crate::keys::{any_fields, FORMATS};
+    use second::frame::{judge, Flag};
+    use second::refusal::Refusal;
+    use second::split::{image, piece};
+
+    /// A piece of a packet of twenty bytes, damaged.
+    fn damaged(format: Format, longest: usize, random: &mut Random) -> (Vec<u8>, &'static str) {
+        let fields = any_fields(format, random);
+        let mut image = piece(&fields, &random.bytes(20), random.below(3));
+        let way = corrupt(&mut image, format, longest, random);
+        (image, way)
+    }
+
+    #[test]
+    fn every_refusal_of_an_image_comes_about_and_every_way() {
+        for format in FORMATS {
+            let mut random = Random::new(5);
+            let (mut seen, mut ways) = (Vec::new(), Vec::new());
+            for _ in 0..3000 {
+                let (image, way) = damaged(format, LONGEST, &mut random);
+                seen.extend(judge(format, &image).err());
+                ways.push(way);
+            }
+            let form = (format == Format::Extended).then_some(Refusal::Form);
+            let others = [
+                Refusal::Length,
+                Refusal::Remote,
+                Refusal::Count,
+                Refusal::Piece,
+            ];
+            for refusal in others.into_iter().chain(form) {
+                assert!(seen.contains(&refusal), "{format:?} {refusal:?}");
+            }
+            let all = CORRUPTIONS.len() - usize::from(format == Format::Standard);
+            for way in &CORRUPTIONS[..all] {
+                assert!(ways.contains(way), "{format:?} {way}");
+            }
+        }
+    }
 
     #[test]
     fn keeps_within_the_longest_for_every_piece() {
         let mut random = Random::new(8);
         for format in FORMATS {
             for _ in 0..5000 {
-                let key = Key::any(format, &mut random);
-                let flag = random.pick(&[START, MIDDLE, END, SINGLE]);
+                let fields = any_fields(format, &mut random);
+                let flags = [Flag::Start, Flag::Middle, Flag::End, Flag::Single];
                 let size = random.within(0, format.piece_size());
-                let mut image = image(&key, flag, 0, &random.bytes(size));
+                let (flag, part) = (random.pick(&flags), random.bytes(size));
+                let mut image = image(&fields, flag, 0, &part);
                 corrupt(&mut image, format, 13, &mut random);
                 assert!(image.len() <= 13);
             }
         }
+    }
+
+    #[test]
+    fn lengths_go_far_where_they_may() {
+        let mut random = Random::new(9);
+        let mut longest = 0;
+        for _ in 0..5000 {
+            let (image, _) = damaged(Format::Extended, LONGEST, &mut random);
+            longest = longest.max(image.len());
+        }
+        assert_eq!(longest, LONGEST);
     }
 
     #[test]
@@ -139,17 +205,7 @@ mod tests {
         for _ in 0..100 {
             let mut image = vec![0x81, 0x45, 0, 0xC0, 0x10, 7];
             break_fixed_bits(&mut image, &mut random);
-            assert!(image[0] & 0xB0 != 0x80 || image[4] & 7 != 0);
-        }
-    }
-
-    #[test]
-    fn shortened_images_have_their_count() {
-        let mut random = Random::new(4);
-        for _ in 0..100 {
-            let mut image = vec![0x88, 0x45, 0, 0x01, 0x10, 1, 2, 3, 4, 5, 6, 7, 8];
-            shorten(&mut image, Format::Extended, &mut random);
-            assert_eq!(usize::from(image[0] & 15), image.len() - 5);
+            assert_eq!(judge(Format::Extended, &image), Err(Refusal::Form));
         }
     }
 }

@@ -12,11 +12,11 @@ impl Random {
     /// The sequence of one numbered item (a trace, a script) under a seed, so that it can be made again alone.
     pub fn of_item(seed: u64, item: u64) -> Self {
         let mut base = Random(seed);
-        Random(base.next() ^ Random(item).next())
+        Random(base.next_u64() ^ Random(item).next_u64())
     }
 
     /// The next 64 bits.
-    pub fn next(&mut self) -> u64 {
+    pub fn next_u64(&mut self) -> u64 {
         self.0 = self.0.wrapping_add(0x9E37_79B9_7F4A_7C15);
         let mut z = self.0;
         z = (z ^ (z >> 30)).wrapping_mul(0xBF58_476D_1CE4_E5B9);
@@ -27,7 +27,7 @@ impl Random {
     /// A number from 0 to `bound` - 1.
     pub fn below(&mut self, bound: usize) -> usize {
         assert!(bound > 0, "nothing is below 0");
-        ((u128::from(self.next()) * bound as u128) >> 64) as usize
+        ((u128::from(self.next_u64()) * bound as u128) >> 64) as usize
     }
 
     /// A number from `low` to `high`, both included.
@@ -42,7 +42,7 @@ impl Random {
 
     /// A byte.
     pub fn byte(&mut self) -> u8 {
-        self.next() as u8
+        self.next_u64() as u8
     }
 
     /// One of the items.
@@ -54,7 +54,7 @@ impl Random {
     pub fn bytes(&mut self, size: usize) -> Vec<u8> {
         let mut bytes = Vec::with_capacity(size + 7);
         while bytes.len() < size {
-            bytes.extend_from_slice(&self.next().to_be_bytes());
+            bytes.extend_from_slice(&self.next_u64().to_be_bytes());
         }
         bytes.truncate(size);
         bytes
@@ -68,8 +68,8 @@ mod tests {
     #[test]
     fn gives_the_published_sequence() {
         let mut random = Random::new(1_234_567);
-        assert_eq!(random.next(), 6_457_827_717_110_365_317);
-        assert_eq!(random.next(), 3_203_168_211_198_807_973);
+        assert_eq!(random.next_u64(), 6_457_827_717_110_365_317);
+        assert_eq!(random.next_u64(), 3_203_168_211_198_807_973);
     }
 
     #[test]
@@ -84,10 +84,10 @@ mod tests {
 
     #[test]
     fn items_have_sequences_of_their_own() {
-        let first = Random::of_item(1, 0).next();
-        assert_eq!(first, Random::of_item(1, 0).next());
-        assert_ne!(first, Random::of_item(1, 1).next());
-        assert_ne!(first, Random::of_item(2, 0).next());
+        let first = Random::of_item(1, 0).next_u64();
+        assert_eq!(first, Random::of_item(1, 0).next_u64());
+        assert_ne!(first, Random::of_item(1, 1).next_u64());
+        assert_ne!(first, Random::of_item(2, 0).next_u64());
     }
 
     #[test]
