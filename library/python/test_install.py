@@ -120,7 +120,8 @@ class Wheel(Case):
         with mock.patch.dict(os.environ, SILJUVATT_LIB=LIB):
             self.path = self.folder / backend.build_wheel(self.folder)
         with zipfile.ZipFile(self.path) as wheel:
-            self.files = {entry.filename: wheel.read(entry) for entry in wheel.infolist()}
+            self.entries = wheel.infolist()
+            self.files = {entry.filename: wheel.read(entry) for entry in self.entries}
         self.about = f"siljuvatt-{VERSION}.dist-info"
 
     def test_files(self):
@@ -139,7 +140,8 @@ class Wheel(Case):
                 self.assertEqual((digest, size), ("", ""))
                 continue
             method, _, text = digest.partition("=")
-            self.assertEqual(base64.urlsafe_b64decode(text + "="), hashlib.new(method, self.files[path]).digest())
+            digest = base64.urlsafe_b64encode(hashlib.new(method, self.files[path]).digest()).decode()
+            self.assertEqual(f"{text}=", digest)  # the = at its end is left out
             self.assertEqual(int(size), len(self.files[path]))
 
     def test_described(self):
@@ -155,6 +157,10 @@ class Wheel(Case):
         with mock.patch.dict(os.environ, SILJUVATT_LIB=LIB):
             backend.build_wheel(self.folder)
         self.assertEqual(self.path.read_bytes(), before)
+        self.assertEqual({entry.date_time for entry in self.entries}, {(1980, 1, 1, 0, 0, 0)})
+
+    def test_files_can_be_read_by_all(self):
+        self.assertEqual({entry.external_attr >> 16 for entry in self.entries}, {0o644})
 
     def test_no_source_package(self):
         self.assertRaisesRegex(backend.UnsupportedOperation, "pip wheel", backend.build_sdist, self.folder)

@@ -535,7 +535,9 @@ class Exchanges(Case):
 class Examples(Case):
     def run_example(self, *arguments, stdout=subprocess.PIPE):
         command = [sys.executable, str(HERE / "example.py"), *map(str, arguments)]
-        return subprocess.run(command, stdout=stdout, stderr=subprocess.PIPE, text=True)
+        # Its output is kept back until there is more of it, as it is for a user.
+        buffered = {name: value for name, value in os.environ.items() if name != "PYTHONUNBUFFERED"}
+        return subprocess.run(command, stdout=stdout, stderr=subprocess.PIPE, text=True, env=buffered)
 
     def run_on(self, trace, **options):
         with tempfile.NamedTemporaryFile() as file:

@@ -530,12 +530,12 @@ class Station:
         """
         answer = _accepted(_library().siljuvatt_receive(
             self._state, STATION_SIZE, self._store, self._store_size, _byte(bus), *_given(image)))
-        broke = bool(answer >> 24 & 1)
-        if _kind(answer) == PACKET:
+        kind, broke = _kind(answer), bool(answer >> 24 & 1)
+        if kind == PACKET:
             return Packet(_number(answer), broke)
-        if _kind(answer) == KEPT:
+        if kind == KEPT:
             return Kept(broke)
-        if _kind(answer) == FILTERED:
+        if kind == FILTERED:
             return Filtered()
         raise _unknown(answer)
 
@@ -631,7 +631,9 @@ class Master:
         return Master.from_bytes, (bytes(self),)  # a copy has a state of its own
 
     def __eq__(self, other: object) -> bool:
-        return bytes(self) == bytes(other) if isinstance(other, Master) else NotImplemented
+        if not isinstance(other, Master):
+            return NotImplemented
+        return bytes(self) == bytes(other)
 
     def __repr__(self) -> str:
         *buses, kind, node, sends, _ = self._state
@@ -655,11 +657,12 @@ class Master:
 
 def _step(answer: int) -> Step:
     answer = _accepted(answer)
-    if _kind(answer) == SEND and _number(answer) in (Bus.A, Bus.B):
+    kind = _kind(answer)
+    if kind == SEND and _number(answer) in (Bus.A, Bus.B):
         return Send(Bus(_number(answer)))
-    if _kind(answer) == DONE:
+    if kind == DONE:
         return Done()
-    if _kind(answer) == GAVE_UP:
+    if kind == GAVE_UP:
         return GaveUp()
     raise _unknown(answer)
 
@@ -698,7 +701,9 @@ class Watch:
         return Watch.from_bytes, (bytes(self),)  # a copy has a state of its own
 
     def __eq__(self, other: object) -> bool:
-        return bytes(self) == bytes(other) if isinstance(other, Watch) else NotImplemented
+        if not isinstance(other, Watch):
+            return NotImplemented
+        return bytes(self) == bytes(other)
 
     def __repr__(self) -> str:
         times = struct.unpack_from("<2I", self._state)
