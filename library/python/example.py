@@ -6,10 +6,11 @@ usage: python3 example.py TRACE
 A record of the trace is a two-byte big-endian length of what follows, version byte 1, bus byte 0 (A) or 1 (B), image.
 """
 
+import os
 import sys
 from pathlib import Path
 
-from siljuvatt import Bus, ExtendedFields, Filtered, Format, Packet, Refused, Station
+from siljuvatt import SLOTS, Bus, ExtendedFields, Filtered, Format, Packet, Refused, Station
 
 
 class Damaged(Exception):
@@ -40,43 +41,61 @@ class Bench:
         self.station = Station(Format.EXTENDED)
         self.slots = {}
 
-    def packet(self, bus, image):
-        """The packet that is whole with this frame, if one is: the part of the store itself."""
+    def receive(self, bus, image):
+        """What the station answers to a frame: Filtered only if sixteen other streams are open."""
         answer = self.station.receive(bus, image)
-        if answer == Filtered() and len(self.slots) < 16:
+        if answer == Filtered() and len(self.slots) < SLOTS:
             # The image is sound, or it were refused: its key is new.
             self.slots[bus, fields_of(image)] = self.station.open(bus, fields_of(image))
             answer = self.station.receive(bus, image)
-        if not isinstance(answer, Packet):
-            return None
+        return answer
+
+    def packet(self, bus, image):
+        """The packet of a frame's stream: the part of the store itself."""
         return self.station.read(self.slots[bus, fields_of(image)])
 
 
 def line(bench, bus, image):
     """What there is to say about a frame, if anything."""
     try:
-        packet = bench.packet(bus, image)
+        answer = bench.receive(bus, image)
     except Refused as refused:
         return f"bus {bus.name}, refused {refused}"
-    if packet is None:
-        return None
     fields = fields_of(image)
-    return f"bus {bus.name}, source {fields.source}, function {fields.function}, {len(packet)} bytes: {packet.hex(' ')}"
+    stream = f"bus {bus.name}, source {fields.source}, function {fields.function}"
+    if answer == Filtered():
+        return f"{stream}: filtered, sixteen streams are open"
+    if isinstance(answer, Packet):
+        return f"{stream}, {answer.length} bytes: {bench.packet(bus, image).hex(' ')}"
+    return None
+
+
+def list_trace(path):
+    """Prints a line for each frame that there is something to say about. Returns what is wrong, or None."""
+    bench = Bench()
+    number = 0
+    try:
+        for number, (bus, image) in enumerate(records(Path(path).read_bytes()), 1):
+            text = line(bench, bus, image)
+            if text is not None:
+                print(f"record {number}: {text}")
+    except Damaged:
+        return f"record {number + 1}: damaged"
+    print(f"{number} records")
+    return None
 
 
 def main():
     if len(sys.argv) != 2:
         sys.exit(__doc__.strip())
-    bench = Bench()
-    number = 0
     try:
-        for number, (bus, image) in enumerate(records(Path(sys.argv[1]).read_bytes()), 1):
-            text = line(bench, bus, image)
-            if text is not None:
-                print(f"record {number}: {text}")
-    except Damaged:
-        sys.exit(f"record {number + 1}: damaged")
-    print(f"{number} records")
+        problem = list_trace(sys.argv[1])
+        print(end="", flush=True)  # what cannot be written is told here: where Python ends it would be a traceback
+    except OSError as error:
+        # No one reads on, no file, no library, a full disk. What is left to print goes nowhere.
+        os.dup2(os.open(os.devnull, os.O_WRONLY), 1)
+        problem = 1 if isinstance(error, BrokenPipeError) else f"example.py: {error}"
+    sys.exit(problem)
 
 
 if __name__ == "__main__":

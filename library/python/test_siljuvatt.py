@@ -1,4 +1,4 @@
-"""Holds document 01's examples and rules against the module, and runs the examples.
+"""Holds document 01's examples and rules against the module, and runs the examples. test_install.py tests the package.
 
 usage: python3 -m unittest test_siljuvatt   (in this folder; SILJUVATT_SO names the shared library)
 """
@@ -13,14 +13,18 @@ import pickle
 import re
 import subprocess
 import sys
+import tempfile
 import threading
+import types
 import unittest
 from pathlib import Path
+from unittest import mock
 
 import siljuvatt
 from siljuvatt import (
-    STORE_SIZE, Bus, Done, ExtendedFields, Filter, Filtered, Format, GaveUp, Kept, Kind, Master, Packet, Refusal,
-    Refused, Send, Silent, StandardFields, Station, Watch, id_of, piece_count, pieces, row_accepts, write_piece)
+    EXTENDED_LIMIT, STANDARD_LIMIT, STORE_SIZE, Bus, Done, ExtendedFields, Filter, Filtered, Format, GaveUp, Kept, Kind,
+    Master, Packet, Refusal, Refused, Send, Silent, StandardFields, Station, Watch, id_of, piece_count, pieces,
+    row_accepts, write_piece)
 
 HERE = Path(__file__).resolve().parent
 SAMPLES = HERE.parent.parent / "samples"
@@ -32,6 +36,7 @@ KEPT, BROKE = Kept(False), Kept(True)
 
 # Format, fields, packet bytes in a piece that is not the last, and what numbers are taken modulo.
 BOTH = [(Format.EXTENDED, BOARD, 8, 64), (Format.STANDARD, SLAVE, 7, 256)]
+LIMITS = {Format.EXTENDED: EXTENDED_LIMIT, Format.STANDARD: STANDARD_LIMIT}
 
 
 def image(fields, flag, number, data):
@@ -76,6 +81,18 @@ class Case(unittest.TestCase):
         for k in range(count):
             piece = image(fields, MIDDLE if k else START, k % modulus, packet_of(size, k))
             self.assertEqual(station.receive(Bus.A, piece), KEPT)
+
+    def edited(self, sound, place, byte):
+        return sound[:place] + bytes([byte]) + sound[place + 1:]
+
+    def equal_until(self, change, one, other):
+        """Two that are equal, and not the same, until one is changed."""
+        self.assertIsNot(one, other)
+        self.assertTrue(one == other and not one != other)
+        change(one)
+        self.assertTrue(one != other and not one == other)
+        self.assertFalse(one == bytes(one))
+        self.assertRaises(TypeError, hash, one)
 
     def unchanged(self, name, station, frame):
         before = bytes(station), bytes(station.store)
@@ -145,12 +162,12 @@ class Splitting(Case):
     def test_every_size_comes_out_whole(self):
         for format, fields, _, _ in BOTH:
             station = self.station(format, fields)
-            for size in range(0, siljuvatt.LIMITS[format] + 1):
+            for size in range(0, LIMITS[format] + 1):
                 # Each size by its count, and a part of them piece by piece: Python is slow.
                 packet = packet_of(size, size)
                 expected = split(fields, packet)
                 self.assertEqual(piece_count(format, size), len(expected))
-                if size > 64 and size % 13 and size != siljuvatt.LIMITS[format]:
+                if size > 64 and size % 13 and size != LIMITS[format]:
                     continue
                 self.assertEqual(list(pieces(format, fields, packet)), expected)
                 for piece in expected:
@@ -252,9 +269,9 @@ class Receiving(Case):
     def test_images_refused_in_their_order(self):
         station = self.station()
         for name, frame in [
-                ("LENGTH", "7F 00 00 00"), ("FORM", "7F 45 00 C1 17"), ("FORM", "EF 45 00 C1 10"), ("FORM", "80 45 00 C0 11"),
-                ("REMOTE", "CF 45 00 C1 10"), ("COUNT", "8F 45 00 C1 10"), ("COUNT", "82 45 00 C1 10 01"),
-                ("PIECE", "81 45 00 C1 10 01"), ("ORPHAN", "81 45 00 81 10 01")]:
+                ("LENGTH", "7F 00 00 00"), ("FORM", "7F 45 00 C1 17"), ("FORM", "EF 45 00 C1 10"),
+                ("FORM", "80 45 00 C0 11"), ("REMOTE", "CF 45 00 C1 10"), ("COUNT", "8F 45 00 C1 10"),
+                ("COUNT", "82 45 00 C1 10 01"), ("PIECE", "81 45 00 C1 10 01"), ("ORPHAN", "81 45 00 81 10 01")]:
             self.unchanged(name, station, bytes.fromhex(frame))
         station = self.station(Format.STANDARD, SLAVE)
         for name, frame in [
@@ -371,13 +388,45 @@ class Streams(Case):
 
     def test_bytes_that_are_no_sound_station(self):
         sound = bytes(self.station())
-        self.assertEqual(bytes(Station.from_bytes(sound)), sound)
-        for place, byte in [(128, 2), (1, 64), (6, 4), (4, 1)]:
-            self.refused("STATE", Station.from_bytes, sound[:place] + bytes([byte]) + sound[place + 1:])
-        self.refused("STATE", Station.from_bytes, sound[:8] * 2 + sound[16:])  # one key twice
-        self.refused("STATE", Station.from_bytes, sound[1:])
-        self.refused("STATE", Station.from_bytes, b"")
+        store = bytearray(STORE_SIZE)
+        self.assertEqual(bytes(Station.from_bytes(sound, store)), sound)
+        # The format, the key, the stream, and the layout, which is the last byte.
+        for place, byte in [(128, 2), (1, 64), (6, 4), (4, 1), (129, 0), (129, 2)]:
+            self.refused("STATE", Station.from_bytes, self.edited(sound, place, byte), store)
+        self.refused("STATE", Station.from_bytes, sound[:8] * 2 + sound[16:], store)  # one key twice
+        for none in (b"", sound[1:], sound + b"\1", bytes(len(sound))):
+            self.refused("STATE", Station.from_bytes, none, store)
         self.refused("FIELD", Station, 2)
+
+    def test_bytes_need_their_store(self):
+        station = self.station()
+        station.receive(Bus.A, image(BOARD, SINGLE, 0, b"007"))
+        self.assertEqual(Station.from_bytes(bytes(station), station.store).read_bytes(0), b"007")
+        self.assertRaises(TypeError, Station.from_bytes, bytes(station))
+        self.assertRaises(TypeError, Station.from_bytes, bytes(station), None)
+
+    def test_equal(self):
+        for frame in (image(BOARD, SINGLE, 0, b"7"), image(BOARD, START, 0, b"00000007")):
+            one, other = self.station(), self.station()
+            self.equal_until(lambda station: station.receive(Bus.A, frame), one, other)
+            other.receive(Bus.A, frame)
+            self.assertEqual(one, other)
+        self.equal_until(lambda station: station.store.__setitem__(-1, 1), one, other)  # the store alone
+        self.assertNotEqual(Station(Format.EXTENDED), Station(Format.STANDARD))
+        self.assertNotEqual(Station(), Station(Format.EXTENDED, bytearray(STORE_SIZE - 1)))
+
+    def test_shown(self):
+        station = Station(Format.STANDARD)
+        self.assertEqual(repr(station), "<Station STANDARD: no slot open>")
+        keys = [SLAVE._replace(address=address) for address in range(16)]
+        for key in keys:
+            station.open(Bus.A, key)
+        for slot in set(range(16)) - {0, 7, 15}:
+            station.close(slot)
+        station.receive(Bus.A, image(keys[7], START, 0, b"0000007"))
+        station.receive(Bus.A, image(keys[15], SINGLE, 0, b"07"))
+        self.assertEqual(
+            repr(station), "<Station STANDARD: slot 0 idle; slot 7 collecting, 7 bytes; slot 15 done, 2 bytes>")
 
     def test_threads(self):
         station = Station()
@@ -437,9 +486,21 @@ class Exchanges(Case):
         for other in (copy.copy(master), copy.deepcopy(master), Master.from_bytes(sound)):
             self.assertEqual(other.reply(Bus.A, 22, 4), Done())
         self.assertEqual(bytes(master), sound)
-        for place, byte in [(0, 2), (64, 4), (65, 64), (66, 0), (66, 4)]:
-            self.refused("STATE", Master.from_bytes, sound[:place] + bytes([byte]) + sound[place + 1:])
-        self.refused("STATE", Master.from_bytes, sound[1:])
+        for place, byte in [(0, 2), (64, 4), (65, 64), (66, 0), (66, 4), (67, 0), (67, 2)]:
+            self.refused("STATE", Master.from_bytes, self.edited(sound, place, byte))
+        for none in (b"", sound[1:], sound + b"\1", bytes(len(sound))):
+            self.refused("STATE", Master.from_bytes, none)
+
+    def test_masters_equal_and_shown(self):
+        self.equal_until(lambda master: master.start(Kind.POLL, 7), Master(), Master())
+        master = Master()
+        self.assertEqual(repr(master), "<Master: no exchange; nodes on bus B: none>")
+        for node in (7, 63):
+            master.start(Kind.POLL, node)
+            master.timeout()
+        self.assertEqual(repr(master), "<Master: no exchange; nodes on bus B: 7, 63>")
+        master.start(Kind.DATA_BLOCK, 22)
+        self.assertEqual(repr(master), "<Master: DATA_BLOCK with node 22, 1 sent; nodes on bus B: 7, 63>")
 
     def test_watch(self):
         watch = Watch(1000)
@@ -450,22 +511,39 @@ class Exchanges(Case):
         self.assertEqual(Watch.from_bytes(bytes(watch)).check(25_000), (True, False))
         self.assertEqual(copy.copy(watch).check(2**32 + 25_000), (True, False))
         self.assertEqual(watch.check(24_999), (False, False))
-        self.refused("STATE", Watch.from_bytes, b"1234567")
+        sound = bytes(watch)
+        for none in (b"", sound[1:], sound + b"\1", bytes(len(sound)), self.edited(sound, 8, 2)):
+            self.refused("STATE", Watch.from_bytes, none)
+
+    def test_watches_equal_and_shown(self):
+        self.equal_until(lambda watch: watch.heard(Bus.B, 2**32 - 1), Watch(1000), Watch(1000))
+        watch = Watch(1000)
+        watch.heard(Bus.B, 2**32 - 1)
+        self.assertEqual(repr(watch), "<Watch: bus A from 1000, bus B from 4294967295>")
 
     def test_rows(self):
         row = bytes.fromhex("12 0F 34 F0 AB 00 CD 01")
         first, second = Filter(0x1234, 0x0FF0), Filter(0xABCD, 0x0001)
         for id in range(0, 0x10000, 3):
             self.assertIs(row_accepts(row, id), first.accepts(id) or second.accepts(id))
-        self.refused("FIELD", row_accepts, row[1:], 0)
+        for none in (b"", row[1:], row + b"\0"):
+            self.assertRaises(ValueError, row_accepts, none, 0)
         self.assertRaises(ValueError, row_accepts, row, 0x10000)
         self.assertRaises(ValueError, id_of, b"\x81\x45")
 
 
 class Examples(Case):
-    def run_example(self, *arguments):
+    def run_example(self, *arguments, stdout=subprocess.PIPE):
         command = [sys.executable, str(HERE / "example.py"), *map(str, arguments)]
-        return subprocess.run(command, capture_output=True, text=True)
+        # Its output is kept back until there is more of it, as it is for a user.
+        buffered = {name: value for name, value in os.environ.items() if name != "PYTHONUNBUFFERED"}
+        return subprocess.run(command, stdout=stdout, stderr=subprocess.PIPE, text=True, env=buffered)
+
+    def run_on(self, trace, **options):
+        with tempfile.NamedTemporaryFile() as file:
+            file.write(trace)
+            file.flush()
+            return self.run_example(file.name, **options)
 
     def test_example_prints_what_is_written_beside_it(self):
         ran = self.run_example(SAMPLES / "two-boards.trace")
@@ -474,13 +552,48 @@ class Examples(Case):
 
     def test_example_agrees_with_the_listing(self):
         listed = re.findall(r"^(\d+) [AB].* (?:packet|refused) (\d+)", (SAMPLES / "two-boards.txt").read_text(), re.M)
-        printed = re.findall(r"^record (\d+): .*?(?:(\d+) bytes|refused (\d+))", (HERE / "example.txt").read_text(), re.M)
+        lines = (HERE / "example.txt").read_text()
+        printed = re.findall(r"^record (\d+): .*?(?:(\d+) bytes|refused (\d+))", lines, re.M)
         self.assertGreater(len(listed), 10)
         self.assertEqual([(record, size or number) for record, size, number in printed], listed)
 
     def test_example_stops_at_damage(self):
         ran = self.run_example(SAMPLES / "two-boards.txt")
         self.assertEqual((ran.returncode, ran.stdout, ran.stderr), (1, "", "record 1: damaged\n"))
+
+    def test_example_tells_each_frame_of_a_17th_stream(self):
+        sources = [*range(16), 40, 3, 41, 40]
+        images = [image(BOARD._replace(source=source), SINGLE, 0, b"7") for source in sources]
+        trace = b"".join(bytes([0, len(piece) + 2, 1, Bus.B]) + piece for piece in images)
+        expected = [
+            f"record {record}: bus B, source {source}, function 2"
+            + (": filtered, sixteen streams are open\n" if source >= 16 else ", 1 bytes: 37\n")
+            for record, source in enumerate(sources, 1)]
+        ran = self.run_on(trace)
+        self.assertEqual((ran.returncode, ran.stderr), (0, ""))
+        self.assertEqual(ran.stdout, "".join(expected) + "20 records\n")
+
+    def test_example_says_in_a_line_what_cannot_be_read(self):
+        for path, text in [(HERE / "none.trace", "No such file"), (HERE, "Is a directory")]:
+            ran = self.run_example(path)
+            self.assertEqual((ran.returncode, ran.stdout), (1, ""))
+            self.assertRegex(ran.stderr, rf"\Aexample.py: .*{text}.*{re.escape(str(path))}.*\n\Z")
+
+    def test_example_ends_quietly_with_its_reader(self):
+        once = (SAMPLES / "two-boards.trace").read_bytes()
+        # What it prints is written at its end, or in between; or there is damage to be told.
+        for trace in (once, once * 50, once + b"0"):
+            read, write = os.pipe()
+            os.close(read)
+            ran = self.run_on(trace, stdout=write)
+            os.close(write)
+            self.assertEqual((ran.returncode, ran.stderr), (1, ""))
+
+    def test_example_says_in_a_line_what_cannot_be_written(self):
+        with open("/dev/full", "w") as full:
+            ran = self.run_example(SAMPLES / "two-boards.trace", stdout=full)
+        self.assertEqual(ran.returncode, 1)
+        self.assertRegex(ran.stderr, r"\Aexample.py: .*No space left.*\n\Z")
 
     def test_text_of_the_module(self):
         failed, tried = doctest.testmod(siljuvatt)
@@ -493,33 +606,88 @@ class Examples(Case):
         self.assertEqual(failed, 0)
 
 
+class Answers(Case):
+    """What a library of another release might answer."""
+
+    @contextlib.contextmanager
+    def answering(self, answer):
+        calls = ("receive", "master_start", "master_reply", "master_timeout", "piece_count", "watch_check")
+        library = types.SimpleNamespace(**{f"siljuvatt_{call}": lambda *arguments: answer for call in calls})
+        with mock.patch.object(siljuvatt, "_loaded", library):
+            yield
+
+    def test_refusals_that_are_not_known(self):
+        station, master, watch = Station(), Master(), Watch(0)
+        for number in (0, 22, 30, 99, 0xFFFF):
+            with self.answering(0x80000000 | number):
+                for call, *arguments in [
+                        (piece_count, 0, 0), (station.receive, 0, b""), (master.start, 1, 1), (watch.check, 0)]:
+                    with self.assertRaises(Refused) as caught:
+                        call(*arguments)
+                    self.assertEqual((caught.exception.number, caught.exception.name), (number, "UNKNOWN"))
+                    self.assertIsNone(caught.exception.refusal)
+
+    def test_kinds_that_are_not_known(self):
+        station, master = Station(), Master()
+        received = {4: Packet(1, False), 5: Kept(False), 6: Filtered()}
+        stepped = {7: Send(Bus.B), 8: Done(), 9: GaveUp()}
+        calls = [
+            (received, station.receive, 0, b""), (stepped, master.start, 1, 1), (stepped, master.reply, 0, 1, 2),
+            (stepped, master.timeout)]
+        for kind in range(256):
+            with self.answering(kind << 16 | 1):
+                for known, call, *arguments in calls:
+                    if kind in known:
+                        self.assertEqual(call(*arguments), known[kind])
+                    else:
+                        self.assertRaisesRegex(RuntimeError, rf"of kind {kind}\b", call, *arguments)
+
+    def test_bus_that_is_not_known(self):
+        master = Master()
+        with self.answering(siljuvatt.SEND << 16 | 2):
+            self.assertRaisesRegex(RuntimeError, "0x00070002", master.timeout)
+
+    def test_refusals_shown_and_handed_on(self):
+        for refusal in Refusal:
+            refused = Refused(refusal)
+            self.assertEqual((refused.number, refused.name, refused.refusal), (refusal.value, refusal.name, refusal))
+            self.assertEqual(str(refused), f"{refusal.value} {refusal.name}: {refusal.text}")
+            self.assertIs(pickle.loads(pickle.dumps(refusal)), refusal)
+        for number in (7, 99):
+            again = pickle.loads(pickle.dumps(Refused(number)))
+            self.assertEqual((again.number, str(again)), (number, str(Refused(number))))
+        self.assertEqual(str(Refused(99)), "99 UNKNOWN: no refusal of this release")
+
+
 class Loading(Case):
+    def compiled(self, folder, source):
+        path = Path(folder) / "other.so"
+        subprocess.run(["cc", "-shared", "-o", path, "-x", "c", "-"], input=source, text=True, check=True)
+        return path
+
+    def test_release(self):
+        self.assertEqual(siljuvatt.version(), siljuvatt.VERSION)
+        self.assertEqual(siljuvatt.__version__, ".".join(map(str, siljuvatt.version().to_bytes(3, "big"))))
+
+    def test_library_of_another_release(self):
+        for source, text in [
+                ("int siljuvatt_version(void) { return 0x010203; }", f"of release 1.2.3, .* {siljuvatt.__version__}:"),
+                ("int other;", "has no siljuvatt_version")]:
+            with tempfile.TemporaryDirectory() as folder:
+                self.assertRaisesRegex(OSError, text, siljuvatt.load, self.compiled(folder, source))
+            self.assertEqual(piece_count(Format.EXTENDED, 9), 2)  # by the library that was loaded before
+
     def test_library_that_is_not_there(self):
-        with contextlib.ExitStack() as stack:
-            named = os.environ.pop("SILJUVATT_SO", None)
-            if named is not None:
-                stack.callback(os.environ.__setitem__, "SILJUVATT_SO", named)
-            places = siljuvatt._places
-            stack.callback(setattr, siljuvatt, "_places", places)
-            siljuvatt._places = lambda: [HERE / "none.so"]
-            with self.assertRaisesRegex(OSError, "make-shared"):
-                siljuvatt.load()
+        without = {name: value for name, value in os.environ.items() if name != "SILJUVATT_SO"}
+        with mock.patch.dict(os.environ, without, clear=True), \
+                mock.patch.object(siljuvatt, "_places", lambda: [HERE / "none.so"]):
+            self.assertRaisesRegex(OSError, "make-shared", siljuvatt.load)
 
     def test_library_by_argument(self):
         siljuvatt.load(os.environ.get("SILJUVATT_SO"))
         self.assertEqual(piece_count(Format.EXTENDED, 9), 2)
         self.assertRaises(OSError, siljuvatt.load, "none.so")
         self.assertEqual(piece_count(Format.EXTENDED, 9), 2)
-
-    def test_names_of_refusals(self):
-        names = ("LENGTH FORM REMOTE COUNT PIECE ORPHAN STEP LONG FIELD SIZE INDEX ROOM STORE TAKEN FULL CLOSED NOPACKET "
-                 "BUSY IDLE NOTAWAITED STATE").split()
-        self.assertEqual([refusal.name for refusal in Refusal], names)
-        for number, name in enumerate(names, 1):
-            self.assertTrue(str(Refused(number)).startswith(f"{number} {name}: "))
-            again = pickle.loads(pickle.dumps(Refused(number)))
-            self.assertEqual((again.number, again.name, str(again)), (number, name, str(Refused(number))))
-        self.assertRaises(ValueError, Refused, 22)
 
 
 if __name__ == "__main__":

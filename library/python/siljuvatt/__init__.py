@@ -5,8 +5,8 @@ both buses; a watch for a bus gone silent. The functions behind this module are 
 and names their answers. What cannot be done raises Refused, with document 01's number and name.
 
 The shared library is loaded at the first call: the file that load() was given, or else the one that the environment
-variable SILJUVATT_SO names, or else libsiljuvatt.so beside this module or in target/staticlib of the repository.
-library/make-shared makes it.
+variable SILJUVATT_SO names, or else libsiljuvatt.so beside this file, where pip installs it, or in target/staticlib of
+the repository, where library/make-shared makes it. It must be of this module's release.
 
 >>> board = ExtendedFields(priority=1, source=5, group=0, destination=0, function=2)
 >>> station = Station(Format.EXTENDED)
@@ -24,24 +24,55 @@ from __future__ import annotations
 import ctypes
 import operator
 import os
+import struct
 from dataclasses import dataclass
 from enum import IntEnum
 from pathlib import Path
 from typing import Any, Iterator, NamedTuple, Optional, Sequence, Union
 
 __all__ = [
-    "Bus", "Done", "ExtendedFields", "Filter", "Filtered", "Format", "GaveUp", "Kept", "Kind", "Master", "Packet",
-    "Refusal", "Refused", "STORE_SIZE", "Send", "Silent", "StandardFields", "Station", "Watch", "id_of", "load",
-    "piece_count", "pieces", "row_accepts", "write_piece",
+    "AREA_SIZE", "Bus", "Done", "EXTENDED_FIELDS", "EXTENDED_IMAGE", "EXTENDED_LIMIT", "ExtendedFields", "Fields",
+    "Filter", "Filtered", "Format", "GaveUp", "Kept", "Kind", "MASTER_LAYOUT", "MASTER_SIZE", "Master", "Packet",
+    "ROW_SIZE", "Refusal", "Refused", "Reply", "SILENCE", "SLOTS", "STANDARD_FIELDS", "STANDARD_IMAGE",
+    "STANDARD_LIMIT", "STATION_LAYOUT", "STATION_SIZE", "STORE_SIZE", "Send", "Silent", "StandardFields", "Station",
+    "Step", "VERSION", "WATCH_LAYOUT", "WATCH_SIZE", "Watch", "id_of", "load", "piece_count", "pieces", "row_accepts",
+    "version", "write_piece",
 ]
 
+# The names and the numbers are those of include/siljuvatt.h, which has SILJUVATT_ before each.
+
+VERSION_MAJOR = 0
+VERSION_MINOR = 2
+VERSION_PATCH = 0
+VERSION = 65536 * VERSION_MAJOR + 256 * VERSION_MINOR + VERSION_PATCH
+__version__ = f"{VERSION_MAJOR}.{VERSION_MINOR}.{VERSION_PATCH}"
+
+EXTENDED_FIELDS = 5
+STANDARD_FIELDS = 3
+EXTENDED_LIMIT = 2048  # most bytes in a packet
+STANDARD_LIMIT = 1792
+EXTENDED_IMAGE = 13  # most bytes in an image
+STANDARD_IMAGE = 10
+
+STATION_SIZE = 130
+STATION_LAYOUT = 1
+SLOTS = 16
 STORE_SIZE = 32768
-AREA_SIZE = 2048
-STATION_SIZE = 129
-MASTER_SIZE = 67
-WATCH_SIZE = 8
-LIMITS = (2048, 1792)  # most bytes in a packet, extended and standard
-IMAGE_SIZES = (13, 10)  # most bytes in an image
+AREA_SIZE = 2048  # what each slot owns of the store
+MASTER_SIZE = 68
+MASTER_LAYOUT = 1
+WATCH_SIZE = 9
+WATCH_LAYOUT = 1
+SILENCE = 16000  # milliseconds
+ROW_SIZE = 8
+
+# Kinds of answers, which this module names by the classes Packet to GaveUp.
+PACKET = 4
+KEPT = 5
+FILTERED = 6
+SEND = 7
+DONE = 8
+GAVE_UP = 9
 
 _VARIABLE = "SILJUVATT_SO"
 _FILE = "libsiljuvatt.so"
@@ -91,58 +122,46 @@ Fields = Union[ExtendedFields, StandardFields, Sequence[int]]
 
 
 class Refusal(IntEnum):
-    """Document 01's refusals."""
+    """Document 01's refusals, each with the text that says when it is given: Refusal.REMOTE.text."""
 
-    LENGTH = 1
-    FORM = 2
-    REMOTE = 3
-    COUNT = 4
-    PIECE = 5
-    ORPHAN = 6
-    STEP = 7
-    LONG = 8
-    FIELD = 9
-    SIZE = 10
-    INDEX = 11
-    ROOM = 12
-    STORE = 13
-    TAKEN = 14
-    FULL = 15
-    CLOSED = 16
-    NOPACKET = 17
-    BUSY = 18
-    IDLE = 19
-    NOTAWAITED = 20
-    STATE = 21
+    text: str
+
+    def __new__(cls, number: int, text: str) -> Refusal:
+        refusal = int.__new__(cls, number)
+        refusal._value_ = number
+        refusal.text = text
+        return refusal
+
+    LENGTH = 1, "the image's length is outside its format's range"
+    FORM = 2, "fixed bits of an extended image are wrong"
+    REMOTE = 3, "RTR is 1"
+    COUNT = 4, "the count is over 8, or not what the image's length says"
+    PIECE = 5, "a rule on flag, number and count is broken"
+    ORPHAN = 6, "a middle or an end while its stream is not collecting"
+    STEP = 7, "another number than awaited; the stream is idle now"
+    LONG = 8, "the packet would pass 2,048 bytes; the stream is idle now"
+    FIELD = 9, "a format, field, bus, kind or node is out of range, or the fields are of another format"
+    SIZE = 10, "the packet is over the format's limit"
+    INDEX = 11, "there is no piece k"
+    ROOM = 12, "the output is shorter than the image"
+    STORE = 13, "the store is not 32,768 bytes"
+    TAKEN = 14, "the key is open already"
+    FULL = 15, "all sixteen slots are open"
+    CLOSED = 16, "the slot number is over 15, or the slot is closed"
+    NOPACKET = 17, "the slot has no whole packet"
+    BUSY = 18, "a start during an exchange"
+    IDLE = 19, "a reply or a timeout with no exchange"
+    NOTAWAITED = 20, "the reply does not count"
+    STATE = 21, "the bytes are no sound station, master or watch of this release's layout"
 
 
-_SAYS = {
-    Refusal.LENGTH: "the image's length is outside its format's range",
-    Refusal.FORM: "fixed bits of an extended image are wrong",
-    Refusal.REMOTE: "RTR is 1",
-    Refusal.COUNT: "the count is over 8, or not what the image's length says",
-    Refusal.PIECE: "a rule on flag, number and count is broken",
-    Refusal.ORPHAN: "a middle or an end while its stream is not collecting",
-    Refusal.STEP: "another number than awaited; the stream is idle now",
-    Refusal.LONG: "the packet would pass 2,048 bytes; the stream is idle now",
-    Refusal.FIELD: "a format, field, bus, kind or node is out of range, or the fields are of another format",
-    Refusal.SIZE: "the packet is over the format's limit",
-    Refusal.INDEX: "there is no piece k",
-    Refusal.ROOM: "the output is shorter than the image",
-    Refusal.STORE: "the store is not 32,768 bytes",
-    Refusal.TAKEN: "the key is open already",
-    Refusal.FULL: "all sixteen slots are open",
-    Refusal.CLOSED: "the slot number is over 15, or the slot is closed",
-    Refusal.NOPACKET: "the slot has no whole packet",
-    Refusal.BUSY: "a start during an exchange",
-    Refusal.IDLE: "a reply or a timeout with no exchange",
-    Refusal.NOTAWAITED: "the reply does not count",
-    Refusal.STATE: "the bytes are no sound station, master or watch",
-}
+_REFUSALS = {int(refusal): refusal for refusal in Refusal}
 
 
 class Refused(Exception):
     """A call was refused. Nothing has changed, but for the stream that lost its place (STEP, LONG).
+
+    A number that this release does not know has the name UNKNOWN, and no refusal.
 
     >>> try:
     ...     piece_count(Format.EXTENDED, 2049)
@@ -151,22 +170,19 @@ class Refused(Exception):
     10 SIZE - 10 SIZE: the packet is over the format's limit
     """
 
+    number: int
+    name: str
+    refusal: Optional[Refusal]
+
     def __init__(self, number: int) -> None:
-        self.refusal = Refusal(number)
-        super().__init__(f"{self.number} {self.name}: {_SAYS[self.refusal]}")
+        self.number = operator.index(number)
+        self.refusal = _REFUSALS.get(self.number)
+        self.name = "UNKNOWN" if self.refusal is None else self.refusal.name
+        text = "no refusal of this release" if self.refusal is None else self.refusal.text
+        super().__init__(f"{self.number} {self.name}: {text}")
 
-    def __reduce__(self) -> tuple:
+    def __reduce__(self) -> tuple[Any, ...]:
         return Refused, (self.number,)  # so that another process can hand it back
-
-    @property
-    def number(self) -> int:
-        """The number in document 01, 1 to 21."""
-        return int(self.refusal)
-
-    @property
-    def name(self) -> str:
-        """The name in document 01."""
-        return self.refusal.name
 
 
 @dataclass(frozen=True)
@@ -222,10 +238,11 @@ class Silent(NamedTuple):
 _loaded: Optional[ctypes.CDLL] = None
 
 _u8, _u16, _u32, _size = ctypes.c_uint8, ctypes.c_uint16, ctypes.c_uint32, ctypes.c_size_t
-_lent = [ctypes.c_void_p, _size]  # a pointer, and its length behind it
+_lent: list[Any] = [ctypes.c_void_p, _size]  # a pointer, and its length behind it
 
 # include/siljuvatt.h has the declarations in C.
-_ARGUMENTS = {
+_ARGUMENTS: dict[str, list[Any]] = {
+    "version": [],
     "piece_count": [_u8, _size],
     "write_piece": [_u8, *_lent, *_lent, _size, *_lent],
     "station_new": [*_lent, _u8],
@@ -234,7 +251,7 @@ _ARGUMENTS = {
     "receive": [*_lent, *_lent, _u8, *_lent],
     "read": [*_lent, *_lent, _size, ctypes.POINTER(_size)],
     "filter_accepts": [_u16, _u16, _u16],
-    "row_accepts": [*_lent, _u16],
+    "row_accepts": [ctypes.c_void_p, _u16],
     "master_new": _lent,
     "master_start": [*_lent, _u8, _u8],
     "master_reply": [*_lent, _u8, _u8, _u8],
@@ -244,11 +261,13 @@ _ARGUMENTS = {
     "watch_check": [*_lent, _u32],
 }
 
+_BOOLEAN = ("filter_accepts", "row_accepts")  # the others answer 32 bits
+
 
 def _places() -> list[Path]:
     """Where the library is looked for if nothing names it."""
     here = Path(__file__).resolve().parent
-    return [here / _FILE, here.parent.parent / "target" / "staticlib" / _FILE]
+    return [here / _FILE, here.parents[2] / "target" / "staticlib" / _FILE]
 
 
 def _find() -> str:
@@ -261,16 +280,34 @@ def _find() -> str:
     raise OSError(f"{_FILE} is not there: make it by library/make-shared, or name it in {_VARIABLE} or to load()")
 
 
-def load(path: Union[str, os.PathLike, None] = None) -> None:
-    """Loads the shared library from a file, or from where it is found (see the module's text)."""
+def _same_release(library: Any, file: Any) -> None:
+    """The module knows the calls and the states of its own release alone. OSError if the library is of another."""
+    try:
+        asked = library.siljuvatt_version
+    except AttributeError:
+        raise OSError(f"{file} has no siljuvatt_version: it is no siljuvatt library of 0.2.0 or later") from None
+    asked.restype = _u32
+    number = asked()
+    if number != VERSION:
+        release = f"{number >> 16}.{number >> 8 & 0xFF}.{number & 0xFF}"
+        raise OSError(f"{file} is of release {release}, and this module is of {__version__}: install both from one")
+
+
+def load(path: Union[str, os.PathLike[str], None] = None) -> None:
+    """Loads the shared library from a file, or from where it is found (see the module's text).
+
+    OSError if it is not there, or is of another release.
+    """
     global _loaded
+    file = os.fspath(path) if path is not None else _find()
     # PyDLL and not CDLL: other Python threads wait for a call, which takes microseconds, so that none of them can
     # touch a station, or resize its store, while the library works on it.
-    library = ctypes.PyDLL(os.fspath(path) if path is not None else _find())
+    library = ctypes.PyDLL(file)
+    _same_release(library, file)
     for name, arguments in _ARGUMENTS.items():
         function = getattr(library, f"siljuvatt_{name}")
         function.argtypes = arguments
-        function.restype = ctypes.c_bool if name == "filter_accepts" else _u32
+        function.restype = ctypes.c_bool if name in _BOOLEAN else _u32
     _loaded = library
 
 
@@ -280,11 +317,33 @@ def _library() -> Any:
     return _loaded
 
 
+def version() -> int:
+    """The release of the shared library, as VERSION is that of the module: 65,536 * major + 256 * minor + patch.
+
+    >>> version() == VERSION
+    True
+    """
+    return int(_library().siljuvatt_version())
+
+
+def _number(answer: int) -> int:
+    return answer & 0xFFFF
+
+
 def _accepted(answer: int) -> int:
     """The answer, unless it is a refusal."""
     if answer >> 31:
-        raise Refused(answer & 0xFFFF)
+        raise Refused(_number(answer))
     return answer
+
+
+def _kind(answer: int) -> int:
+    return answer >> 16 & 0xFF
+
+
+def _unknown(answer: int) -> RuntimeError:
+    """For an answer that means nothing to this module. It is no Refused, which says that nothing has changed."""
+    return RuntimeError(f"the library answers {answer:#010x}, of kind {_kind(answer)}: no answer of this release")
 
 
 # A number too large for its place in C must not wrap into range. The largest number that fits is out of range
@@ -332,6 +391,23 @@ def _writable(buffer: Any) -> tuple[Any, int]:
     return array, view.nbytes
 
 
+def _sound(data: Any, refusal: Refusal, call: str, *arguments: int) -> Any:
+    """A state of these bytes. Refused: STATE.
+
+    The arguments are ones that the call refuses, with that refusal, of a sound state: STATE comes first.
+    """
+    data, length = _given(data)
+    state = (ctypes.c_uint8 * length).from_buffer_copy(data)
+    answer = getattr(_library(), f"siljuvatt_{call}")(state, length, *arguments)
+    if _number(answer) != refusal:
+        raise Refused(_number(answer))
+    return state
+
+
+_NO_SLOT = SLOTS
+_NO_BUS = 2
+
+
 # ---- Splitting ----
 
 
@@ -361,7 +437,7 @@ def pieces(format: int, fields: Fields, packet: Any) -> Iterator[bytes]:
     ['96 a8 00 30 30 34 31 32 37 30', '96 c3 01 31 39']
     """
     packet, size = _given(packet)
-    output = bytearray(max(IMAGE_SIZES))
+    output = bytearray(EXTENDED_IMAGE)  # the longer one
     write_piece(format, fields, packet, 0, output)  # piece 0 is refused only for the format, the fields or the size
     count = piece_count(format, size)
 
@@ -375,14 +451,15 @@ def pieces(format: int, fields: Fields, packet: Any) -> Iterator[bytes]:
 
 # ---- A station ----
 
-_NO_SLOT = 16  # closing it is refused: STATE if the station is not sound, else CLOSED
+_STREAMS = ("closed", "idle", "collecting", "done")
 
 
 class Station:
     """Up to sixteen streams of one format.
 
-    The packets lie in a store of 32,768 bytes: one of the station's own, or any writable buffer that is lent to it, as a
-    bytearray or an mmap. The station itself is 129 bytes: bytes(station), and Station.from_bytes makes it again.
+    The packets lie in a store of 32,768 bytes: one of the station's own, or any writable buffer that is lent to it, as
+    a bytearray or an mmap. The station itself is 130 bytes: bytes(station), and Station.from_bytes makes it again of
+    them and the store. Stations are equal if these bytes and their stores are.
 
     >>> station = Station(Format.EXTENDED)
     >>> station.open(Bus.B, ExtendedFields(priority=0, source=6, group=0, destination=0, function=2))
@@ -393,16 +470,18 @@ class Station:
     b'9'
     >>> station.receive(Bus.A, b"\\x81\\x06\\x00\\xC0\\x10\\x39")
     Filtered()
+    >>> station
+    <Station EXTENDED: slot 0 done, 1 bytes>
     """
 
     def __init__(self, format: int = Format.EXTENDED, store: Any = None) -> None:
-        self._state = (ctypes.c_uint8 * STATION_SIZE)()
+        self._state: Any = (ctypes.c_uint8 * STATION_SIZE)()
         _accepted(_library().siljuvatt_station_new(self._state, STATION_SIZE, _byte(format)))
-        self._lend(store)
+        self._lend(bytearray(STORE_SIZE) if store is None else store)
 
     def _lend(self, store: Any) -> None:
-        self._lent = bytearray(STORE_SIZE) if store is None else store
-        self._store, self._store_size = _writable(self._lent)
+        self._lent = store
+        self._store, self._store_size = _writable(store)
 
     @property
     def store(self) -> Any:
@@ -410,26 +489,30 @@ class Station:
         return self._lent
 
     @classmethod
-    def from_bytes(cls, data: Any, store: Any = None) -> Station:
-        """The station that these bytes are, with the store that it had. Refused: STATE."""
-        data, size = _given(data)
-        if size != STATION_SIZE:
-            raise Refused(Refusal.STATE)
-        state = (ctypes.c_uint8 * STATION_SIZE).from_buffer_copy(data)
-        answer = _library().siljuvatt_close(state, STATION_SIZE, _NO_SLOT)
-        if answer & 0xFFFF != Refusal.CLOSED:
-            _accepted(answer)
+    def from_bytes(cls, data: Any, store: Any) -> Station:
+        """The station that these bytes are, with the store that it had: a packet lies in it. Refused: STATE."""
         station = cls.__new__(cls)
-        station._state = state
+        station._state = _sound(data, Refusal.CLOSED, "close", _NO_SLOT)
         station._lend(store)
         return station
 
     def __bytes__(self) -> bytes:
         return bytes(self._state)
 
-    def __reduce__(self) -> tuple:
+    def __reduce__(self) -> tuple[Any, ...]:
         # A copy has a state and a store of its own.
         return Station.from_bytes, (bytes(self), bytearray(self._store))
+
+    def __eq__(self, other: object) -> bool:
+        if not isinstance(other, Station):
+            return NotImplemented
+        return bytes(self) == bytes(other) and bytes(self._store) == bytes(other._store)
+
+    def __repr__(self) -> str:
+        records = struct.unpack_from(f"<{2 * SLOTS}I", self._state)[1::2]
+        streams = [f"slot {slot} {_STREAMS[record >> 16]}" + (f", {_number(record)} bytes" if record >> 17 else "")
+                   for slot, record in enumerate(records) if record]
+        return f"<Station {Format(self._state[8 * SLOTS]).name}: {'; '.join(streams) or 'no slot open'}>"
 
     def open(self, bus: int, fields: Fields) -> int:
         """Opens a key in the lowest closed slot and returns the slot's number. Refused: FIELD, TAKEN, FULL."""
@@ -447,12 +530,14 @@ class Station:
         """
         answer = _accepted(_library().siljuvatt_receive(
             self._state, STATION_SIZE, self._store, self._store_size, _byte(bus), *_given(image)))
-        kind, broke = answer >> 16 & 0xFF, bool(answer >> 24 & 1)
-        if kind == 1:
-            return Packet(answer & 0xFFFF, broke)
-        if kind == 2:
+        kind, broke = _kind(answer), bool(answer >> 24 & 1)
+        if kind == PACKET:
+            return Packet(_number(answer), broke)
+        if kind == KEPT:
             return Kept(broke)
-        return Filtered()
+        if kind == FILTERED:
+            return Filtered()
+        raise _unknown(answer)
 
     def read(self, slot: int) -> memoryview:
         """The packet of a slot: the part of the store itself, read-only, with no copying.
@@ -495,57 +580,66 @@ class Filter(NamedTuple):
 
     def accepts(self, id: int) -> bool:
         """Whether each bit is the code's or has mask bit 1."""
-        return _library().siljuvatt_filter_accepts(
-            _sixteen_bits(self.code), _sixteen_bits(self.mask), _sixteen_bits(id))
+        return bool(_library().siljuvatt_filter_accepts(
+            _sixteen_bits(self.code), _sixteen_bits(self.mask), _sixteen_bits(id)))
 
 
 def row_accepts(row: Any, id: int) -> bool:
-    """Whether a row of Table A.1 accepts: code 0, mask 0, code 1, mask 1 and so on, 8 bytes. Refused: FIELD.
+    """Whether a row of Table A.1 accepts: code 0, mask 0, code 1, mask 1 and so on, 8 bytes.
+
+    ValueError if they are not 8: it is the module that asks for them, no refusal of the library.
 
     >>> row_accepts(bytes.fromhex("45 00 00 00 46 00 00 00"), 0x4600)
     True
     """
-    return _accepted(_library().siljuvatt_row_accepts(*_given(row), _sixteen_bits(id))) == 1
+    data, size = _given(row)
+    if size != ROW_SIZE:
+        raise ValueError(f"a row is {ROW_SIZE} bytes, and not {size}")
+    return bool(_library().siljuvatt_row_accepts(data, _sixteen_bits(id)))
 
 
 # ---- A master ----
 
-_NO_BUS = 2  # a reply on it is refused: STATE if the master is not sound, else FIELD
-
 
 class Master:
-    """The bus chosen for each of 64 nodes, and at most one exchange: 67 bytes, bytes(master).
+    """The bus chosen for each of 64 nodes, and at most one exchange: 68 bytes, bytes(master).
 
     >>> master = Master()
     >>> master.start(Kind.COMMAND, node=22), master.timeout(), master.timeout()
     (Send(bus=<Bus.A: 0>), Send(bus=<Bus.A: 0>), Send(bus=<Bus.B: 1>))
+    >>> master
+    <Master: COMMAND with node 22, 3 sent; nodes on bus B: 22>
     >>> master.reply(Bus.B, node=22, function=4)
     Done()
     """
 
     def __init__(self) -> None:
-        self._state = (ctypes.c_uint8 * MASTER_SIZE)()
+        self._state: Any = (ctypes.c_uint8 * MASTER_SIZE)()
         _accepted(_library().siljuvatt_master_new(self._state, MASTER_SIZE))
 
     @classmethod
     def from_bytes(cls, data: Any) -> Master:
         """The master that these bytes are. Refused: STATE."""
-        data, size = _given(data)
-        if size != MASTER_SIZE:
-            raise Refused(Refusal.STATE)
-        state = (ctypes.c_uint8 * MASTER_SIZE).from_buffer_copy(data)
-        answer = _library().siljuvatt_master_reply(state, MASTER_SIZE, _NO_BUS, 0, 0)
-        if answer & 0xFFFF != Refusal.FIELD:
-            _accepted(answer)
         master = cls.__new__(cls)
-        master._state = state
+        master._state = _sound(data, Refusal.FIELD, "master_reply", _NO_BUS, 0, 0)
         return master
 
     def __bytes__(self) -> bytes:
         return bytes(self._state)
 
-    def __reduce__(self) -> tuple:
+    def __reduce__(self) -> tuple[Any, ...]:
         return Master.from_bytes, (bytes(self),)  # a copy has a state of its own
+
+    def __eq__(self, other: object) -> bool:
+        if not isinstance(other, Master):
+            return NotImplemented
+        return bytes(self) == bytes(other)
+
+    def __repr__(self) -> str:
+        *buses, kind, node, sends, _ = self._state
+        exchange = f"{Kind(kind).name} with node {node}, {sends} sent" if kind else "no exchange"
+        nodes = [str(node) for node, bus in enumerate(buses) if bus == Bus.B]
+        return f"<Master: {exchange}; nodes on bus B: {', '.join(nodes) or 'none'}>"
 
     def start(self, kind: int, node: int) -> Step:
         """Starts an exchange with a node: Send. Refused: FIELD, BUSY."""
@@ -563,19 +657,21 @@ class Master:
 
 def _step(answer: int) -> Step:
     answer = _accepted(answer)
-    kind = answer >> 16 & 0xFF
-    if kind == 1:
-        return Send(Bus(answer & 0xFFFF))
-    if kind == 2:
+    kind = _kind(answer)
+    if kind == SEND and _number(answer) in (Bus.A, Bus.B):
+        return Send(Bus(_number(answer)))
+    if kind == DONE:
         return Done()
-    return GaveUp()
+    if kind == GAVE_UP:
+        return GaveUp()
+    raise _unknown(answer)
 
 
 # ---- A watch ----
 
 
 class Watch:
-    """The silence of each bus, in milliseconds of a free-running count: 8 bytes, bytes(watch).
+    """The silence of each bus, in milliseconds of a free-running count: 9 bytes, bytes(watch).
 
     A time may be any whole number, as int(time.monotonic() * 1000): its low 32 bits count.
 
@@ -583,33 +679,41 @@ class Watch:
     >>> watch.heard(Bus.B, now=9000)
     >>> watch.check(now=15999), watch.check(now=16000)
     (Silent(a=False, b=False), Silent(a=True, b=False))
+    >>> watch
+    <Watch: bus A from 16000, bus B from 9000>
     """
 
     def __init__(self, now: int) -> None:
-        self._state = (ctypes.c_uint8 * WATCH_SIZE)()
+        self._state: Any = (ctypes.c_uint8 * WATCH_SIZE)()
         _accepted(_library().siljuvatt_watch_new(self._state, WATCH_SIZE, _time(now)))
 
     @classmethod
     def from_bytes(cls, data: Any) -> Watch:
         """The watch that these bytes are. Refused: STATE."""
-        data, size = _given(data)
-        if size != WATCH_SIZE:
-            raise Refused(Refusal.STATE)
         watch = cls.__new__(cls)
-        watch._state = (ctypes.c_uint8 * WATCH_SIZE).from_buffer_copy(data)
+        watch._state = _sound(data, Refusal.FIELD, "watch_heard", _NO_BUS, 0)
         return watch
 
     def __bytes__(self) -> bytes:
         return bytes(self._state)
 
-    def __reduce__(self) -> tuple:
+    def __reduce__(self) -> tuple[Any, ...]:
         return Watch.from_bytes, (bytes(self),)  # a copy has a state of its own
+
+    def __eq__(self, other: object) -> bool:
+        if not isinstance(other, Watch):
+            return NotImplemented
+        return bytes(self) == bytes(other)
+
+    def __repr__(self) -> str:
+        times = struct.unpack_from("<2I", self._state)
+        return f"<Watch: bus A from {times[0]}, bus B from {times[1]}>"
 
     def heard(self, bus: int, now: int) -> None:
         """A bus is heard. Refused: FIELD."""
         _accepted(_library().siljuvatt_watch_heard(self._state, WATCH_SIZE, _byte(bus), _time(now)))
 
     def check(self, now: int) -> Silent:
-        """Which buses have been silent for 16,000 ms or more; the silence of such a bus counts from now on."""
+        """Which buses have been silent for 16,000 ms (SILENCE) or more; such a bus's silence counts from now on."""
         answer = _accepted(_library().siljuvatt_watch_check(self._state, WATCH_SIZE, _time(now)))
-        return Silent(bool(answer & 1), bool(answer & 2))
+        return Silent(bool(answer >> 25 & 1), bool(answer >> 26 & 1))
