@@ -2,8 +2,8 @@
 //! the same stations and stores.
 
 use bench::arrivals::{fields_at, kinds, one_source, Answered, FORMATS};
-use bench::bytes::{self, fields_bytes, number_word, put_station, reply_word, station_of};
 use bench::bytes::STATION_SIZE;
+use bench::bytes::{self, fields_bytes, number_word, put_station, reply_word, station_of};
 use bench::plain::{Format, Key, Refusal, Station, SLOTS, STORE_SIZE};
 use bench::receivers::{Library, Plain, PlainBytes};
 use bench::{library, split};

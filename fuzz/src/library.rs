@@ -10,12 +10,13 @@ macro_rules! library {
     ($(
         $function:ident as $name:ident($($argument:ident $([$length:ident])?: $kind:ty),*) -> $answer:ty;
     )*) => {
-        /// What is compared with the model: the library itself, or in tests a faulty one. A bool of C is a byte here, so
-        /// that only 0 and 1 pass.
+        /// What is compared with the model: the library itself, or in tests a faulty one. A bool of C is a byte here,
+        /// so that only 0 and 1 pass.
         ///
         /// # Safety
         ///
-        /// A pointer is good for as many bytes as the length behind it says, one without a length for what it points to.
+        /// A pointer is good for as many bytes as the length behind it says, one without a length for what it points
+        /// to.
         #[allow(clippy::missing_safety_doc, clippy::too_many_arguments)]
         pub trait Library {
             $(unsafe fn $name(&self, $($argument: Raw<$kind> $(, $length: usize)?),*) -> RawAnswer<$answer>;)*

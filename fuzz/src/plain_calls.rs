@@ -59,7 +59,8 @@ fn near(code: u16, mask: u16, random: &mut Random) -> u16 {
     }
 }
 
-/// The format and the packet size that a sequence has by its number, so that every size comes up; the last are over the limit.
+/// The format and the packet size that a sequence has by its number, so that every size comes up; the last are over the
+/// limit.
 fn own_size(number: u64) -> (Format, usize) {
     let format = FORMATS[(number % 2) as usize];
     (format, (number / 2 % 2100) as usize)

@@ -6,8 +6,8 @@ use crate::argument::record_bytes;
 use crate::call::Part;
 use crate::library::FUNCTIONS;
 
-/// What the file begins with. Behind it stand the names of the functions in the order of their numbers, a line each, and
-/// an empty line.
+/// What the file begins with. Behind it stand the names of the functions in the order of their numbers, a line each,
+/// and an empty line.
 const MAGIC: &str = "siljuvatt calls 2\n";
 
 /// Besides a call's function number: a part is set, a sequence ends, the file ends.
