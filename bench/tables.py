@@ -98,7 +98,8 @@ def streams(figures):
             cells = [number(figure("streams", f"{form} {opened}", who)) for form, who in contestants]
             rows.append([opened, *cells])
         heads = ["open streams", *(f"{form}, {names[who]}" for form, who in contestants)]
-        print_table(f"A single of 8 bytes for the last open stream, {unit} a call (with none open it is filtered):", heads, rows)
+        title = f"A single of 8 bytes for the last open stream, {unit} a call (with none open it is filtered):"
+        print_table(title, heads, rows)
 
 
 def packets(figures):
@@ -162,8 +163,8 @@ def within(value, limit):
 
 
 def targets(figures):
-    """Each target, what was measured, whether it is met, none where nothing was measured, and whether it is a count, which
-    is the same in every run."""
+    """Each target, what was measured, whether it is met, none where nothing was measured, and whether it is a count,
+    which is the same in every run."""
     one = ("single", "extended")
     library, value = (figures.instructions(*one, who) for who in ("library", "value"))
     plain_time = figures.nanoseconds(*one, "plain")
@@ -172,14 +173,29 @@ def targets(figures):
                 for row in figures.rows["split"])
     reads = {figures.instructions("read", row, "library") for row in figures.rows["read"] if row.isdigit()}
     return [
-        (f"library's receive: at most {RECEIVE_LIMIT:,} instructions", number(library), within(library, RECEIVE_LIMIT), True),
+        (
+            f"library's receive: at most {RECEIVE_LIMIT:,} instructions",
+            number(library),
+            within(library, RECEIVE_LIMIT),
+            True,
+        ),
         (f"station by value: at most {VALUE_LIMIT:,} instructions", number(value), within(value, VALUE_LIMIT), True),
         ("library's receive: faster than plain Rust, whose time is 1", ratio(library_time, plain_time),
          within(library_time, plain_time), False),
         ("station by value: faster than plain Rust, whose time is 1", ratio(value_time, plain_time),
          within(value_time, plain_time), False),
-        ("splitting: at most twice plain Rust's instructions", f"{worst:.2f} at most", within(worst, SPLIT_RATIO), True),
-        ("reading: the same at every packet size", " ".join(number(read) for read in sorted(reads)), len(reads) == 1, True),
+        (
+            "splitting: at most twice plain Rust's instructions",
+            f"{worst:.2f} at most",
+            within(worst, SPLIT_RATIO),
+            True,
+        ),
+        (
+            "reading: the same at every packet size",
+            " ".join(number(read) for read in sorted(reads)),
+            len(reads) == 1,
+            True,
+        ),
     ]
 
 
@@ -197,7 +213,8 @@ def main():
     figures = Figures(folder)
     single(figures)
     if not quick:
-        pairs(figures, "keys", "keys differ in", "The same frame, by the field in which the sixteen keys differ, instructions a call:")
+        title = "The same frame, by the field in which the sixteen keys differ, instructions a call:"
+        pairs(figures, "keys", "keys differ in", title)
         streams(figures)
         packets(figures)
         frames(figures)

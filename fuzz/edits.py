@@ -4,7 +4,7 @@
 usage: fuzz/edits.py FOLDER, the folder of libsiljuvatt.a
 
 A rule that is wrong in the library is one that is wrong in the model, seen from the other side: so this shows that
-the inputs of fuzz/run reach each of these rules. The repository stays as it is; copies of second/ and fuzz/ are edited.
+the inputs of fuzz/run reach each of these rules. The repository stays as it is: a copy of the workspace is edited.
 """
 
 import os
@@ -15,6 +15,9 @@ import sys
 import tempfile
 
 CALLS = "1000000"
+
+# All members of the workspace, as cargo wants to see each.
+PACKAGES = ("second", "testkit", "compare", "fuzz", "bench", "library/rust")
 
 # What to put for what, in each file of second/src, with every run of blanks and line ends as one blank.
 EDITS = {
@@ -42,12 +45,15 @@ EDITS = {
         ("usize::from(self.node) < NODE_COUNT", "usize::from(self.node) <= NODE_COUNT"),
         ("self.chosen.iter().all(|&bus| is_bus(bus)) ", "self.chosen[1..].iter().all(|&bus| is_bus(bus)) "),
         (
-            " if !is_node(node) { return (self, Err(Refusal::Field)); } if self.exchange.is_some() { return (self, Err(Refusal::Busy)); }",
-            " if self.exchange.is_some() { return (self, Err(Refusal::Busy)); } if !is_node(node) { return (self, Err(Refusal::Field)); }",
+            " if !is_node(node) { return (self, Err(Refusal::Field)); }"
+            " if self.exchange.is_some() { return (self, Err(Refusal::Busy)); }",
+            " if self.exchange.is_some() { return (self, Err(Refusal::Busy)); }"
+            " if !is_node(node) { return (self, Err(Refusal::Field)); }",
         ),
         (
             " } else if !in_range { Err(Refusal::Field) } else { self.exchange.ok_or(Refusal::Idle) }",
-            " } else if self.exchange.is_none() { Err(Refusal::Idle) } else if !in_range { Err(Refusal::Field) } else { self.exchange.ok_or(Refusal::Idle) }",
+            " } else if self.exchange.is_none() { Err(Refusal::Idle) } else if !in_range { Err(Refusal::Field) }"
+            " else { self.exchange.ok_or(Refusal::Idle) }",
         ),
     ],
     "watch.rs": [
@@ -99,7 +105,8 @@ EDITS = {
         ("store.len() != STORE_SIZE", "store.len() < STORE_SIZE"),
         (
             " if self.slots.iter().any(|slot| slot.key() == Some(key)) { return Err(Refusal::Taken); }",
-            " if self.slots.iter().all(|slot| *slot != Slot::Closed) { return Err(Refusal::Full); } if self.slots.iter().any(|slot| slot.key() == Some(key)) { return Err(Refusal::Taken); }",
+            " if self.slots.iter().all(|slot| *slot != Slot::Closed) { return Err(Refusal::Full); }"
+            " if self.slots.iter().any(|slot| slot.key() == Some(key)) { return Err(Refusal::Taken); }",
         ),
     ],
     "frame.rs": [
@@ -127,16 +134,17 @@ EDITS = {
         ("if number == 1 { 3 } else { 2 }", "3"),
     ],
     "split.rs": [
-        ("if output.len() < length", "if output.len() <= length"),
+        ("if output.len() < image.len()", "if output.len() <= image.len()"),
         ("flag.bits() << 6 | number", "flag.bits() << 6 | (number & 31)"),
         ("if k >= count", "if k > 256"),
         ("side << 7", "side << 6"),
-        ("number_size + part.len()) as u8", "part.len()) as u8"),
+        ("part.len() as u8 + u8::from(numbered)", "part.len() as u8"),
         (
-            "output[head_size..length].copy_from_slice(part);",
-            "output[head_size..length].copy_from_slice(part); if output.len() > length { output[length] = 0; }",
+            "output[..image.len()].copy_from_slice(&image);",
+            "output[..image.len()].copy_from_slice(&image);"
+            " if output.len() > image.len() { output[image.len()] = 0; }",
         ),
-        ("else if size <= MAX_COUNT", "else if size < MAX_COUNT"),
+        ("if size <= MAX_COUNT", "if size < MAX_COUNT"),
     ],
     "key.rs": [
         ("function <= 31", "function <= 32"),
@@ -148,28 +156,44 @@ EDITS = {
         ("if (key, state) == (0, 0)", "if state == 0"),
         ("(slot_numbers(&slot) == (key, state))", "(slot_numbers(&slot).0 == key)"),
         ("(slot_numbers(&slot) == (key, state))", "(slot_numbers(&slot).1 == state)"),
-        (" if bytes.len() != STATION_SIZE {", " if bytes.len() < STATION_SIZE {"),
+        (" if bytes.len() != STATION_SIZE ||", " if bytes.len() < STATION_SIZE ||"),
+        (" || bytes[STATION_SIZE - 1] != STATION_LAYOUT", ""),
         ("fields + 128 * u32::from(key.bus)", "fields + 64 * u32::from(key.bus)"),
         ("+ 4 * u32::from(function)", "+ 8 * u32::from(function)"),
     ],
     "interface/master_bytes.rs": [
-        ("[0, 0, 0] => None", "[0, _, _] => None"),
-        ("[0, 0, 0] => None", "[0, 0, _] => None"),
+        ("[0, 0, 0, MASTER_LAYOUT] => None", "[0, _, _, MASTER_LAYOUT] => None"),
+        ("[0, 0, 0, MASTER_LAYOUT] => None", "[0, 0, _, MASTER_LAYOUT] => None"),
+        ("[0, 0, 0, MASTER_LAYOUT] => None", "[0, 0, 0, _] => None"),
+        ("[kind, node, sends, MASTER_LAYOUT]", "[kind, node, sends, _]"),
+    ],
+    "interface/watch_bytes.rs": [
+        ("b3, WATCH_LAYOUT] => Some", "b3, _] => Some"),
+    ],
+    "interface/answer.rs": [
+        ("[1 << 25, 1 << 26]", "[1 << 26, 1 << 25]"),
+        ("SEND: u32 = 7", "SEND: u32 = 4"),
+        ("FILTERED: u32 = 6", "FILTERED: u32 = 5"),
     ],
     "interface/mod.rs": [
-        ("let start = length.is_ok().then(|| slot * AREA_SIZE);", "let start = Some(slot % 16 * AREA_SIZE);"),
+        ("if length.is_ok() { *start = slot * AREA_SIZE; }", "*start = slot % 16 * AREA_SIZE;"),
+        ("RELEASE: [u8; 3] = [0, 2, 0]", "RELEASE: [u8; 3] = [0, 2, 1]"),
         (
-            "if station.len() != STATION_SIZE { return refused(Refusal::State); } let Some(format) = format_of(format) else { return refused(Refusal::Field); };",
-            "let Some(format) = format_of(format) else { return refused(Refusal::Field); }; if station.len() != STATION_SIZE { return refused(Refusal::State); }",
+            "if station.len() != STATION_SIZE { return refused(Refusal::State); }"
+            " let Some(format) = format_of(format) else { return refused(Refusal::Field); };",
+            "let Some(format) = format_of(format) else { return refused(Refusal::Field); };"
+            " if station.len() != STATION_SIZE { return refused(Refusal::State); }",
         ),
         ("if answer != Answer::Refused(Refusal::State) {", "if !matches!(answer, Answer::Refused(_)) {"),
         (
             " let fields = fields_of(old.format, fields)?;",
-            " let fields = fields_of(old.format, &fields[..fields.len().min(if old.format == Format::Extended { 5 } else { 3 })])?;",
+            " let most = if old.format == Format::Extended { 5 } else { 3 };"
+            " let fields = fields_of(old.format, &fields[..fields.len().min(most)])?;",
         ),
         (
             "Some(kind) => master.start(kind, node), None => (master, Err(Refusal::Field))",
-            "Some(kind) => master.start(kind, node), None if master.exchange.is_some() => (master, Err(Refusal::Busy)), None => (master, Err(Refusal::Field))",
+            "Some(kind) => master.start(kind, node),"
+            " None if master.exchange.is_some() => (master, Err(Refusal::Busy)), None => (master, Err(Refusal::Field))",
         ),
     ],
 }
@@ -183,9 +207,10 @@ def flat(text):
 
 def build_and_run(folder):
     """Builds the copies and makes the comparison; answers whether it told of a difference."""
-    build = ["cargo", "build", "--release", "--offline", "--quiet", "--jobs", "1", "--manifest-path", "fuzz/Cargo.toml"]
+    build = ["cargo", "build", "--release", "--offline", "--quiet", "--jobs", "1", "--package", "fuzz"]
     subprocess.run(build, cwd=folder, check=True)
-    run = subprocess.run(["fuzz/target/release/fuzz", "--calls", CALLS], cwd=folder, stderr=subprocess.PIPE, text=True)
+    fuzz = [os.path.join(os.environ["CARGO_TARGET_DIR"], "release/fuzz"), "--calls", CALLS]
+    run = subprocess.run(fuzz, stderr=subprocess.PIPE, text=True)
     # The edited model may break down, as where it writes behind an area.
     told = "fuzz: a difference" in run.stderr or "panicked" in run.stderr
     if not told and run.returncode != 0:
@@ -219,9 +244,11 @@ def main():
     root = os.path.dirname(os.path.dirname(os.path.abspath(__file__)))
     missed = []
     with tempfile.TemporaryDirectory() as folder:
-        for package in ("second", "fuzz", "compare"):
-            leave = shutil.ignore_patterns("target")
-            shutil.copytree(os.path.join(root, package), os.path.join(folder, package), ignore=leave)
+        os.environ["CARGO_TARGET_DIR"] = os.path.join(folder, "target")
+        for name in ("Cargo.toml", "Cargo.lock"):
+            shutil.copy(os.path.join(root, name), folder)
+        for package in PACKAGES:
+            shutil.copytree(os.path.join(root, package), os.path.join(folder, package))
         if build_and_run(folder):
             sys.exit("library and model differ without an edit: fuzz/run")
         edits = [(name, old, new) for name, pairs in EDITS.items() for old, new in pairs]

@@ -6,22 +6,21 @@
 
 #include "siljuvatt.h"
 
-uint32_t __real_siljuvatt_row_accepts(const uint8_t *row, size_t row_length, uint16_t id);
-uint32_t __wrap_siljuvatt_row_accepts(const uint8_t *row, size_t row_length, uint16_t id);
+bool __real_siljuvatt_row_accepts(const siljuvatt_row *row, uint16_t id);
+bool __wrap_siljuvatt_row_accepts(const siljuvatt_row *row, uint16_t id);
 
 static volatile uint8_t last;
 
-uint32_t __wrap_siljuvatt_row_accepts(const uint8_t *row, size_t row_length, uint16_t id)
+bool __wrap_siljuvatt_row_accepts(const siljuvatt_row *row, uint16_t id)
 {
-    if (row_length == 8) {
+    volatile size_t behind = sizeof row->bytes;
 #ifdef BY_MEMCPY
-        uint8_t copy[9];
-        volatile size_t length = sizeof copy;
-        memcpy(copy, row, length);
-        last = copy[8];
+    uint8_t copy[sizeof row->bytes + 1];
+
+    memcpy(copy, row, behind + 1);
+    last = copy[behind];
 #else
-        last = row[row_length];
+    last = row->bytes[behind];
 #endif
-    }
-    return __real_siljuvatt_row_accepts(row, row_length, id);
+    return __real_siljuvatt_row_accepts(row, id);
 }

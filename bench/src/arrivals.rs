@@ -1,6 +1,8 @@
 //! What a station is given to receive: frames of every kind, by the answer that they get.
 
-use crate::plain::{Fields, Format, Key, Progress, Station, Stream, AREA_SIZE, SLOTS, STORE_SIZE};
+use crate::plain::{
+    Fields, Format, Key, Progress, Refusal, Station, Stream, AREA_SIZE, SLOTS, STORE_SIZE,
+};
 use crate::receivers::Receiver;
 use crate::split;
 
@@ -121,25 +123,70 @@ fn piece_of(format: Format, size: usize, k: usize) -> Vec<Vec<u8>> {
     vec![images_of(format, LAST, size).swap_remove(k)]
 }
 
-type Row = (&'static str, Arrival);
+/// What a row is answered.
+#[derive(Clone, Copy, Debug, PartialEq, Eq)]
+pub enum Answered {
+    Packet,
+    Kept,
+    Filtered,
+    Refused(Refusal),
+}
+
+/// A row of a table: what it is answered, what is told of it besides, and what is received.
+pub struct Row {
+    pub answered: Answered,
+    told: &'static str,
+    pub arrival: Arrival,
+}
+
+impl Row {
+    pub fn name(&self) -> String {
+        let answered = match self.answered {
+            Answered::Packet => "packet".into(),
+            Answered::Kept => "kept".into(),
+            Answered::Filtered => "filtered".into(),
+            Answered::Refused(refusal) => refused_name(refusal),
+        };
+        match self.told {
+            "" => answered,
+            told => format!("{answered}: {told}"),
+        }
+    }
+}
+
+/// A refusal as rows name it.
+pub fn refused_name(refusal: Refusal) -> String {
+    format!("refused {} {}", refusal.number(), refusal.name())
+}
+
+fn row(answered: Answered, told: &'static str, arrival: Arrival) -> Row {
+    Row {
+        answered,
+        told,
+        arrival,
+    }
+}
+
+fn refusal(refusal: Refusal, arrival: Arrival) -> Row {
+    row(Answered::Refused(refusal), "", arrival)
+}
 
 fn taken(format: Format) -> Vec<Row> {
+    use Answered::{Filtered, Kept, Packet};
     let piece = format.piece_size();
     let idle = station_with(format, SLOTS, Progress::Idle);
     let collecting = station_with(format, SLOTS, Progress::Collecting(piece));
     let single = |slot, size| Arrival::anew(&idle, images_of(format, slot, size));
     let next = |size| Arrival::anew(&collecting, piece_of(format, size, 1));
+    let start = Arrival::anew(&idle, piece_of(format, 64, 0));
     vec![
-        ("packet: a single of 8 for slot 0", single(0, 8)),
-        ("packet: a single of 8 for slot 15", single(LAST, 8)),
-        ("packet: a single of 0 for slot 15", single(LAST, 0)),
-        (
-            "kept: a start",
-            Arrival::anew(&idle, piece_of(format, 64, 0)),
-        ),
-        ("kept: a middle", next(64)),
-        ("packet: an end, filled", next(2 * piece)),
-        ("filtered", single(SLOTS, 8)),
+        row(Packet, "a single of 8 for slot 0", single(0, 8)),
+        row(Packet, "a single of 8 for slot 15", single(LAST, 8)),
+        row(Packet, "a single of 0 for slot 15", single(LAST, 0)),
+        row(Kept, "a start", start),
+        row(Kept, "a middle", next(64)),
+        row(Packet, "an end, filled", next(2 * piece)),
+        row(Filtered, "", single(SLOTS, 8)),
     ]
 }
 
@@ -149,27 +196,27 @@ fn refused(format: Format) -> Vec<Row> {
     let collecting = station_with(format, SLOTS, Progress::Collecting(format.piece_size()));
     let on_idle = |images| Arrival::anew(&idle, images);
     let wrong = |place| on_idle(bent(format, place));
-    let mut rows = vec![("refused 1 LENGTH", on_idle(vec![vec![0x81]]))];
+    let mut rows = vec![refusal(Refusal::Length, on_idle(vec![vec![0x81]]))];
     match format {
         Format::Extended => rows.extend([
-            ("refused 2 FORM", wrong((4, 1))),
-            ("refused 3 REMOTE", wrong((0, 0x40))),
-            ("refused 4 COUNT", wrong((0, 1))),
-            ("refused 5 PIECE", wrong((3, 1))),
+            refusal(Refusal::Form, wrong((4, 1))),
+            refusal(Refusal::Remote, wrong((0, 0x40))),
+            refusal(Refusal::Count, wrong((0, 1))),
+            refusal(Refusal::Piece, wrong((3, 1))),
         ]),
         Format::Standard => rows.extend([
-            ("refused 3 REMOTE", wrong((1, 0x10))),
-            ("refused 4 COUNT", wrong((1, 1))),
-            ("refused 5 PIECE", wrong((1, 0x20))),
+            refusal(Refusal::Remote, wrong((1, 0x10))),
+            refusal(Refusal::Count, wrong((1, 1))),
+            refusal(Refusal::Piece, wrong((1, 0x20))),
         ]),
     }
-    rows.push(("refused 6 ORPHAN", on_idle(piece_of(format, 64, 1))));
-    let skipped = piece_of(format, 64, 2);
-    rows.push(("refused 7 STEP", Arrival::anew(&collecting, skipped)));
+    rows.push(refusal(Refusal::Orphan, on_idle(piece_of(format, 64, 1))));
+    let skipped = Arrival::anew(&collecting, piece_of(format, 64, 2));
+    rows.push(refusal(Refusal::Step, skipped));
     if format == Format::Extended {
         let full = station_with(format, SLOTS, Progress::Collecting(AREA_SIZE));
         let more = piece_of(format, AREA_SIZE, 64);
-        rows.push(("refused 8 LONG", Arrival::anew(&full, more)));
+        rows.push(refusal(Refusal::Long, Arrival::anew(&full, more)));
     }
     rows
 }
@@ -200,11 +247,12 @@ fn refused_before(format: Format) -> Vec<Row> {
         store: STORE_SIZE - 1,
         ..good
     };
+    let unsound = Answered::Refused(Refusal::State);
     vec![
-        ("refused 9 FIELD", bus),
-        ("refused 13 STORE", short),
-        ("refused 21 STATE: slots 14 and 15 alike", alike),
-        ("refused 21 STATE: slot 0 out of range", outside),
+        refusal(Refusal::Field, bus),
+        refusal(Refusal::Store, short),
+        row(unsound, "slots 14 and 15 alike", alike),
+        row(unsound, "slot 0 out of range", outside),
     ]
 }
 

@@ -3,7 +3,9 @@
 
 #![forbid(unsafe_code)]
 
-use crate::library::STATION_SIZE;
+use second::interface::{refused, FILTERED, KEPT, PACKET};
+pub use second::interface::{STATION_LAYOUT, STATION_SIZE};
+
 use crate::plain::{Fields, Format, Key, Progress, Refusal, Reply, Station, Stream, SLOTS};
 
 fn key_number(key: Key) -> u32 {
@@ -94,9 +96,9 @@ pub fn station_of(bytes: &[u8]) -> Result<Station, Refusal> {
     if bytes.len() != STATION_SIZE {
         return Err(Refusal::State);
     }
-    let format = match bytes[8 * SLOTS] {
-        0 => Format::Extended,
-        1 => Format::Standard,
+    let format = match bytes[8 * SLOTS..] {
+        [0, STATION_LAYOUT] => Format::Extended,
+        [1, STATION_LAYOUT] => Format::Standard,
         _ => return Err(Refusal::State),
     };
     let mut station = Station::new(format);
@@ -115,7 +117,7 @@ pub fn put_station(station: &Station, bytes: &mut [u8]) {
         record[..4].copy_from_slice(&key.to_le_bytes());
         record[4..].copy_from_slice(&progress.to_le_bytes());
     }
-    bytes[8 * SLOTS] = station.format as u8;
+    bytes[8 * SLOTS..].copy_from_slice(&[station.format as u8, STATION_LAYOUT]);
 }
 
 pub fn receive(
@@ -150,10 +152,6 @@ pub fn fields_bytes(fields: Fields) -> Vec<u8> {
     }
 }
 
-fn refused(refusal: Refusal) -> u32 {
-    0x8000_0000 + refusal as u32
-}
-
 /// The library's number for a slot, a count or a length.
 pub fn number_word(answer: Result<usize, Refusal>) -> u32 {
     answer.map_or_else(refused, |number| number as u32)
@@ -161,10 +159,11 @@ pub fn number_word(answer: Result<usize, Refusal>) -> u32 {
 
 /// The library's number for an answer to a frame.
 pub fn reply_word(answer: Result<Reply, Refusal>) -> u32 {
+    let broken = |broke| u32::from(broke) << 24;
     match answer {
-        Ok(Reply::Packet { length, broke }) => 65_536 + length as u32 + (u32::from(broke) << 24),
-        Ok(Reply::Kept { broke }) => 131_072 + (u32::from(broke) << 24),
-        Ok(Reply::Filtered) => 196_608,
+        Ok(Reply::Packet { length, broke }) => PACKET << 16 | length as u32 | broken(broke),
+        Ok(Reply::Kept { broke }) => KEPT << 16 | broken(broke),
+        Ok(Reply::Filtered) => FILTERED << 16,
         Err(refusal) => refused(refusal),
     }
 }

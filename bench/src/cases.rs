@@ -3,7 +3,8 @@
 use std::hint::black_box;
 
 use crate::arrivals::{
-    fields_at, images_of, kinds, one_source, packet_of, station_with, Arrival, FORMATS,
+    fields_at, images_of, kinds, one_source, packet_of, refused_name, station_with, Arrival,
+    FORMATS,
 };
 use crate::bytes::fields_bytes;
 use crate::library;
@@ -155,9 +156,10 @@ fn packet_cases() -> Vec<Case> {
 fn frame_cases() -> Vec<Case> {
     let mut cases = Vec::new();
     for format in FORMATS {
-        for (kind, arrival) in kinds(format) {
-            let row = Row::new("frame", format!("{} {kind}", name(format)), 1, 8);
-            cases.extend(receive_pair(&row, &arrival));
+        for kind in kinds(format) {
+            let title = format!("{} {}", name(format), kind.name());
+            let row = Row::new("frame", title, 1, 8);
+            cases.extend(receive_pair(&row, &kind.arrival));
         }
     }
     cases
@@ -248,7 +250,8 @@ fn read_pair(title: &str, size: usize, slot: usize) -> [Case; 2] {
 }
 
 fn read_cases() -> Vec<Case> {
-    let mut cases = Vec::from(read_pair("refused 16 CLOSED", 2_048, SLOTS));
+    let closed = refused_name(Refusal::Closed);
+    let mut cases = Vec::from(read_pair(&closed, 2_048, SLOTS));
     for size in [1, 8, 64, 256, 1_024, 2_048] {
         cases.extend(read_pair(&size.to_string(), size, SLOTS - 1));
     }

@@ -3,8 +3,9 @@
 pub mod arrivals;
 pub mod bytes;
 pub mod cases;
-pub mod library;
 pub mod measured;
 pub mod plain;
 pub mod receivers;
 pub mod split;
+
+pub use siljuvatt::raw::slices as library;

@@ -3,6 +3,8 @@
 
 #![forbid(unsafe_code)]
 
+pub use second::refusal::Refusal;
+
 pub const SLOTS: usize = 16;
 pub const AREA_SIZE: usize = 2_048;
 pub const STORE_SIZE: usize = SLOTS * AREA_SIZE;
@@ -103,28 +105,6 @@ impl Flag {
             _ => Flag::Single,
         }
     }
-}
-
-#[derive(Clone, Copy, Debug, PartialEq, Eq)]
-pub enum Refusal {
-    Length = 1,
-    Form = 2,
-    Remote = 3,
-    Count = 4,
-    Piece = 5,
-    Orphan = 6,
-    Step = 7,
-    Long = 8,
-    Field = 9,
-    Size = 10,
-    Index = 11,
-    Room = 12,
-    Store = 13,
-    Taken = 14,
-    Full = 15,
-    Closed = 16,
-    NoPacket = 17,
-    State = 21,
 }
 
 #[derive(Clone, Copy, Debug, PartialEq, Eq)]

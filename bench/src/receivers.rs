@@ -1,7 +1,7 @@
 //! The receivers that are measured against each other, behind one trait.
 
-use crate::bytes::{put_station, reply_word};
-use crate::library::{self, STATION_SIZE};
+use crate::bytes::{put_station, reply_word, STATION_SIZE};
+use crate::library;
 use crate::measured;
 use crate::plain::{Refusal, Reply, Station};
 

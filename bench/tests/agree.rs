@@ -1,36 +1,15 @@
 //! On random traffic, whole and damaged, the library and the plain receivers give the same answers, and end with
 //! the same stations and stores.
 
-use bench::arrivals::{fields_at, kinds, one_source, FORMATS};
+use bench::arrivals::{fields_at, kinds, one_source, Answered, FORMATS};
+use bench::bytes::STATION_SIZE;
 use bench::bytes::{self, fields_bytes, number_word, put_station, reply_word, station_of};
-use bench::library::{self, STATION_SIZE};
-use bench::plain::{Format, Key, Station, SLOTS, STORE_SIZE};
+use bench::plain::{Format, Key, Refusal, Station, SLOTS, STORE_SIZE};
 use bench::receivers::{Library, Plain, PlainBytes};
-use bench::split;
-
-/// Numbers that look random, the same in every run (xorshift).
-struct Numbers(u64);
-
-impl Numbers {
-    fn next(&mut self) -> u64 {
-        self.0 ^= self.0 << 13;
-        self.0 ^= self.0 >> 7;
-        self.0 ^= self.0 << 17;
-        self.0
-    }
-
-    fn below(&mut self, limit: usize) -> usize {
-        (self.next() >> 11) as usize % limit
-    }
-
-    fn chance(&mut self, percent: usize) -> bool {
-        self.below(100) < percent
-    }
-
-    fn bytes(&mut self, count: usize) -> Vec<u8> {
-        (0..count).map(|_| self.next() as u8).collect()
-    }
-}
+use bench::{library, split};
+use second::interface::{refused, FILTERED, KEPT, PACKET};
+use testkit::damage::{corrupt, LONGEST};
+use testkit::Random;
 
 /// The same station three times, each with its store.
 struct Bench {
@@ -104,19 +83,19 @@ impl Bench {
     }
 }
 
-fn a_size(numbers: &mut Numbers, format: Format) -> usize {
-    match numbers.below(4) {
-        0 => numbers.below(9),
-        1 => numbers.below(40),
-        2 => numbers.below(format.packet_limit() + 3),
-        _ => format.packet_limit() - numbers.below(3),
+fn a_size(random: &mut Random, format: Format) -> usize {
+    match random.below(4) {
+        0 => random.below(9),
+        1 => random.below(40),
+        2 => random.below(format.packet_limit() + 3),
+        _ => format.packet_limit() - random.below(3),
     }
 }
 
 /// The images of a packet, written by the library and by plain Rust.
-fn pieces(numbers: &mut Numbers, format: Format, slot: usize) -> Vec<Vec<u8>> {
-    let size = a_size(numbers, format);
-    let packet = numbers.bytes(size);
+fn pieces(random: &mut Random, format: Format, slot: usize) -> Vec<Vec<u8>> {
+    let size = a_size(random, format);
+    let packet = random.bytes(size);
     let fields = fields_at(format, slot);
     let handed = fields_bytes(fields);
     let answer = library::piece_count(format as u8, size);
@@ -125,7 +104,7 @@ fn pieces(numbers: &mut Numbers, format: Format, slot: usize) -> Vec<Vec<u8>> {
     let mut images = Vec::new();
     for k in 0..=count {
         let mut outputs = [[0xEE; 14]; 2];
-        let room = 14 - numbers.below(4);
+        let room = 14 - random.below(4);
         let answer =
             library::write_piece(format as u8, &handed, &packet, k, &mut outputs[0][..room]);
         let own = split::write_piece(fields, &packet, k, &mut outputs[1][..room]);
@@ -138,14 +117,11 @@ fn pieces(numbers: &mut Numbers, format: Format, slot: usize) -> Vec<Vec<u8>> {
     images
 }
 
-fn damage(numbers: &mut Numbers, image: &mut Vec<u8>) {
-    match numbers.below(3) {
-        0 => image.truncate(numbers.below(image.len() + 1)),
-        1 => image.push(numbers.next() as u8),
-        _ => {
-            let i = numbers.below(image.len());
-            image[i] ^= 1 << numbers.below(8);
-        }
+/// The testkit's format, which is the second program's.
+fn format_of_kit(format: Format) -> second::format::Format {
+    match format {
+        Format::Extended => second::format::Format::Extended,
+        Format::Standard => second::format::Format::Standard,
     }
 }
 
@@ -159,28 +135,28 @@ fn kind_of(answer: u32) -> u32 {
 }
 
 fn traffic(seed: u64, format: Format, answers: &mut Vec<u32>) {
-    let mut numbers = Numbers(seed);
+    let mut random = Random::new(seed);
     let mut bench = Bench::new(format);
     for _ in 0..60 {
-        match numbers.below(8) {
-            0 => bench.close(numbers.below(SLOTS + 1)),
+        match random.below(8) {
+            0 => bench.close(random.below(SLOTS + 1)),
             1..=4 => {
-                let bus = numbers.below(3) as u8;
+                let bus = random.below(3) as u8;
                 bench.open(Key {
                     bus: bus % 2 + bus / 2 * 7,
-                    fields: fields_at(format, numbers.below(9)),
+                    fields: fields_at(format, random.below(9)),
                 });
             }
             _ => {}
         }
-        let slot = numbers.below(10);
-        let mut bus = numbers.below(2) as u8;
-        for mut image in pieces(&mut numbers, format, slot) {
-            if numbers.chance(2) {
-                damage(&mut numbers, &mut image);
+        let slot = random.below(10);
+        let mut bus = random.below(2) as u8;
+        for mut image in pieces(&mut random, format, slot) {
+            if random.chance(20) {
+                corrupt(&mut image, format_of_kit(format), LONGEST, &mut random);
             }
-            if numbers.chance(1) {
-                bus = numbers.below(3) as u8;
+            if random.chance(10) {
+                bus = random.below(3) as u8;
             }
             let answer = bench.receive(bus, &image);
             if !answers.contains(&kind_of(answer)) {
@@ -188,7 +164,7 @@ fn traffic(seed: u64, format: Format, answers: &mut Vec<u32>) {
             }
             bench.check_states();
         }
-        bench.read(numbers.below(SLOTS + 2));
+        bench.read(random.below(SLOTS + 2));
         bench.check_stores();
     }
 }
@@ -201,30 +177,43 @@ fn traffic_is_received_alike() {
             traffic(seed, format, &mut answers);
         }
     }
-    // Packet and kept, with and without "broke"; filtered; refused with 1 to 7 and 9.
-    assert!(answers.len() >= 13, "{answers:08X?}");
+    let taken = [PACKET, KEPT].map(|kind| [kind << 16, kind << 16 | 1 << 24]);
+    let refusals = [
+        Refusal::Length,
+        Refusal::Form,
+        Refusal::Remote,
+        Refusal::Count,
+        Refusal::Piece,
+        Refusal::Orphan,
+        Refusal::Step,
+        Refusal::Field,
+    ];
+    let expected = taken.into_iter().flatten().chain([FILTERED << 16]);
+    for answer in expected.chain(refusals.map(refused)) {
+        assert!(answers.contains(&answer), "{answer:08X}");
+    }
 }
 
 /// Bytes that are no sound station, and some that are.
 #[test]
 fn states_are_judged_alike() {
-    let mut numbers = Numbers(7);
+    let mut random = Random::new(7);
     let mut sound = 0;
     for turn in 0..40_000 {
         let format = FORMATS[turn % 2];
         let mut bench = Bench::new(format);
-        for slot in 0..numbers.below(SLOTS + 1) {
+        for slot in 0..random.below(SLOTS + 1) {
             bench.open(Key {
-                bus: numbers.below(2) as u8,
+                bus: random.below(2) as u8,
                 fields: fields_at(format, slot),
             });
         }
-        for _ in 0..numbers.below(3) {
-            let i = numbers.below(STATION_SIZE);
-            bench.library[i] = if numbers.chance(50) {
-                numbers.below(4) as u8
+        for _ in 0..random.below(3) {
+            let i = random.below(STATION_SIZE);
+            bench.library[i] = if random.chance(500) {
+                random.below(4) as u8
             } else {
-                numbers.next() as u8
+                random.byte()
             };
         }
         bench.plain_bytes = bench.library;
@@ -236,25 +225,18 @@ fn states_are_judged_alike() {
             answer
         );
         assert_eq!(bench.plain_bytes, bench.library);
-        sound += usize::from(answer != 0x8000_0015);
+        sound += usize::from(answer != refused(Refusal::State));
     }
     assert!((8_000..32_000).contains(&sound), "{sound}");
 }
 
 /// The answer that a row's name says, but for the length of a packet.
-fn named(row: &str) -> u32 {
-    let mut words = row.split([' ', ':']);
-    match words.next() {
-        Some("packet") => 65_536,
-        Some("kept") => 131_072,
-        Some("filtered") => 196_608,
-        _ => {
-            0x8000_0000
-                + words
-                    .next()
-                    .and_then(|number| number.parse::<u32>().ok())
-                    .expect("a number")
-        }
+fn named(answered: Answered) -> u32 {
+    match answered {
+        Answered::Packet => PACKET << 16,
+        Answered::Kept => KEPT << 16,
+        Answered::Filtered => FILTERED << 16,
+        Answered::Refused(refusal) => refused(refusal),
     }
 }
 
@@ -262,13 +244,15 @@ fn named(row: &str) -> u32 {
 #[test]
 fn rows_are_answered_as_named() {
     for format in FORMATS {
-        for (row, arrival) in kinds(format) {
-            let answer = arrival.answer::<Library>().expect("an image");
-            assert_eq!(kind_of(answer), named(row), "{row}");
-            assert_eq!(arrival.answer::<Plain>(), Some(answer), "{row}");
-            assert_eq!(arrival.answer::<PlainBytes>(), Some(answer), "{row}");
+        for row in kinds(format) {
+            let name = row.name();
+            let answer = row.arrival.answer::<Library>().expect("an image");
+            assert_eq!(kind_of(answer), named(row.answered), "{name}");
+            assert_eq!(row.arrival.answer::<Plain>(), Some(answer), "{name}");
+            assert_eq!(row.arrival.answer::<PlainBytes>(), Some(answer), "{name}");
         }
     }
-    assert_eq!(one_source().answer::<Library>(), Some(65_536 + 8));
-    assert_eq!(one_source().answer::<Plain>(), Some(65_536 + 8));
+    let packet = Some(PACKET << 16 | 8);
+    assert_eq!(one_source().answer::<Library>(), packet);
+    assert_eq!(one_source().answer::<Plain>(), packet);
 }

@@ -2,21 +2,16 @@
 
 use std::fmt;
 
-use second::interface::{self, MASTER_SIZE, STATION_SIZE, WATCH_SIZE};
+use second::interface;
 use second::station::STORE_SIZE;
 
-use crate::call::{Call, Hex, Part, Store};
+use crate::argument::{Hand, Held, Hold, Raw};
+use crate::call::{Call, Hex, Part};
 use crate::library::Library;
 use crate::memory::{Arena, Layout};
 
 /// The longest buffers that are lent.
-pub const LONGEST_STATE: usize = 65_536 + 1_024;
-pub const LONGEST_STORE: usize = 65_536 + STORE_SIZE + 64;
-pub const LONGEST_PACKET: usize = 65_536 + 4_096;
-pub const LONGEST_SHORT: usize = 65_536 + 1_024;
-
-/// What `*start` holds before a call.
-const START: usize = 0x5AA5_C33C_0FF0_9669;
+const LONGEST: usize = 65_536 + STORE_SIZE + 1_024;
 
 /// Where library and model differ.
 #[derive(Debug, PartialEq, Eq)]
@@ -55,8 +50,8 @@ impl fmt::Display for Difference {
     }
 }
 
-/// The parts that last from call to call, as the model has them.
-#[derive(Clone, Debug, PartialEq, Eq)]
+/// The parts that last from call to call, as the model has them. A sequence gives them their first bytes.
+#[derive(Clone, Debug, Default, PartialEq, Eq)]
 pub struct Parts {
     pub station: Vec<u8>,
     pub store: Vec<u8>,
@@ -65,25 +60,7 @@ pub struct Parts {
 }
 
 impl Parts {
-    pub fn new() -> Parts {
-        Parts {
-            station: vec![0; STATION_SIZE],
-            store: vec![0; STORE_SIZE],
-            master: vec![0; MASTER_SIZE],
-            watch: vec![0; WATCH_SIZE],
-        }
-    }
-
-    pub fn get(&self, part: Part) -> &Vec<u8> {
-        match part {
-            Part::Station => &self.station,
-            Part::Store => &self.store,
-            Part::Master => &self.master,
-            Part::Watch => &self.watch,
-        }
-    }
-
-    fn get_mut(&mut self, part: Part) -> &mut Vec<u8> {
+    pub fn get_mut(&mut self, part: Part) -> &mut Vec<u8> {
         match part {
             Part::Station => &mut self.station,
             Part::Store => &mut self.store,
@@ -93,9 +70,11 @@ impl Parts {
     }
 }
 
-impl Default for Parts {
-    fn default() -> Parts {
-        Parts::new()
+impl fmt::Display for Parts {
+    fn fmt(&self, f: &mut fmt::Formatter) -> fmt::Result {
+        writeln!(f, "station {}", Hex(&self.station))?;
+        writeln!(f, "master {}", Hex(&self.master))?;
+        write!(f, "watch {}", Hex(&self.watch))
     }
 }
 
@@ -103,21 +82,19 @@ impl Default for Parts {
 #[derive(Clone, Debug, PartialEq, Eq)]
 pub struct Outcome {
     pub answer: u32,
-    /// `*start` after reading.
-    pub start: usize,
-    /// The output after writing a piece.
-    pub output: Vec<u8>,
+    /// The call for fuzz/replay.c, if it is recorded.
+    pub record: Vec<u8>,
 }
 
-/// One buffer lent to the library, by its name in the header.
+/// One buffer lent to the library, by the argument's name.
 struct Lent {
     name: &'static str,
     arena: Arena,
 }
 
 impl Lent {
-    fn new(name: &'static str, longest: usize) -> Lent {
-        let arena = Arena::new(longest);
+    fn new(name: &'static str) -> Lent {
+        let arena = Arena::new(LONGEST);
         Lent { name, arena }
     }
 
@@ -149,17 +126,79 @@ impl Lent {
     }
 }
 
-/// The buffers of all calls.
-struct Lents {
-    state: Lent,
+/// The buffers that the library is lent.
+pub struct Lents {
+    lents: Vec<Lent>,
+    /// The library keeps its store from call to call: a copy of 32 KiB at each would be slow.
     store: Lent,
-    other_store: Lent,
-    fields: Lent,
-    packet: Lent,
-    output: Lent,
-    image: Lent,
-    row: Lent,
-    start: Lent,
+    layout: Layout,
+    /// The store is compared whole at every so many calls.
+    store_every: usize,
+    /// Calls since the sequence began; shifts buffers to other addresses.
+    calls: usize,
+    /// Buffers lent in this call.
+    in_call: usize,
+}
+
+impl Lents {
+    fn new(store_every: usize) -> Lents {
+        Lents {
+            lents: Vec::new(),
+            store: Lent::new("store"),
+            layout: Layout::Guarded,
+            store_every,
+            calls: 0,
+            in_call: 0,
+        }
+    }
+
+    fn begin_call(&mut self) {
+        self.calls += 1;
+        self.in_call = 0;
+    }
+
+    /// Lends a copy of the bytes, and answers where it lies. Each buffer of a call is shifted at a pace of its own.
+    pub fn lend(&mut self, name: &'static str, bytes: &[u8]) -> *mut u8 {
+        let shift = self.calls >> self.in_call;
+        self.in_call += 1;
+        self.lend_at(name, shift, bytes)
+    }
+
+    /// Lends bytes that have to be aligned, and so are never shifted.
+    pub fn lend_aligned(&mut self, name: &'static str, bytes: &[u8]) -> *mut u8 {
+        self.lend_at(name, 0, bytes)
+    }
+
+    fn lend_at(&mut self, name: &'static str, shift: usize, bytes: &[u8]) -> *mut u8 {
+        let place = self.lents.iter().position(|lent| lent.name == name);
+        let place = place.unwrap_or_else(|| {
+            self.lents.push(Lent::new(name));
+            self.lents.len() - 1
+        });
+        let arena = &mut self.lents[place].arena;
+        arena.lend(self.layout, shift, bytes);
+        arena.pointer(shift)
+    }
+
+    pub fn compare(&self, name: &str, expected: &[u8]) -> Result<(), Difference> {
+        let lent = self.lents.iter().find(|lent| lent.name == name);
+        lent.expect("a buffer that was lent").compare(expected)
+    }
+
+    fn set_lasting_store(&mut self, bytes: &[u8]) {
+        self.store.arena.lend(self.layout, self.calls, bytes);
+    }
+
+    pub fn lasting_store(&self) -> *mut u8 {
+        self.store.arena.pointer(self.calls)
+    }
+
+    pub fn compare_lasting_store(&self, expected: &[u8]) -> Result<(), Difference> {
+        match self.calls.is_multiple_of(self.store_every) {
+            true => self.store.compare(expected),
+            false => self.store.compare_outside(),
+        }
+    }
 }
 
 /// The library and the model side by side.
@@ -167,45 +206,25 @@ pub struct Bench<L> {
     library: L,
     parts: Parts,
     lents: Lents,
-    layout: Layout,
-    /// The store is compared whole at every so many calls that are lent it.
-    store_every: usize,
-    /// Calls since the sequence began; shifts buffers to other addresses.
-    calls: usize,
+    recording: bool,
 }
 
-/// A buffer as the library is handed it.
-type Buffer = (*mut u8, usize);
-
 impl<L: Library> Bench<L> {
-    pub fn new(library: L, store_every: usize) -> Bench<L> {
-        let lents = Lents {
-            state: Lent::new("state", LONGEST_STATE),
-            store: Lent::new("store", LONGEST_STORE),
-            other_store: Lent::new("store", LONGEST_STORE),
-            fields: Lent::new("fields", LONGEST_SHORT),
-            packet: Lent::new("packet", LONGEST_PACKET),
-            output: Lent::new("output", LONGEST_SHORT),
-            image: Lent::new("image", LONGEST_SHORT),
-            row: Lent::new("row", LONGEST_SHORT),
-            start: Lent::new("start", LONGEST_SHORT),
-        };
+    pub fn new(library: L, store_every: usize, recording: bool) -> Bench<L> {
         Bench {
             library,
-            parts: Parts::new(),
-            lents,
-            layout: Layout::Guarded,
-            store_every,
-            calls: 0,
+            parts: Parts::default(),
+            lents: Lents::new(store_every),
+            recording,
         }
     }
 
-    /// Begins a sequence with the parts all 0.
+    /// Begins a sequence, which gives each part its first bytes.
     pub fn begin(&mut self, layout: Layout) {
-        self.layout = layout;
-        self.calls = 0;
-        self.parts = Parts::new();
-        self.lend_store();
+        self.lents.layout = layout;
+        self.lents.calls = 0;
+        self.parts = Parts::default();
+        self.lents.set_lasting_store(&[]);
     }
 
     pub fn parts(&self) -> &Parts {
@@ -218,7 +237,7 @@ impl<L: Library> Bench<L> {
         own.clear();
         own.extend_from_slice(bytes);
         if part == Part::Store {
-            self.lend_store();
+            self.lents.set_lasting_store(bytes);
         }
     }
 
@@ -227,291 +246,60 @@ impl<L: Library> Bench<L> {
         self.lents.store.compare(&self.parts.store)
     }
 
-    /// Makes the call and compares.
-    pub fn make(&mut self, call: &Call) -> Result<Outcome, Difference> {
-        self.calls += 1;
-        let mut outcome = Outcome {
-            answer: 0,
-            start: START,
-            output: Vec::new(),
-        };
-        outcome.answer = match call {
-            Call::PieceCount { .. } | Call::FilterAccepts { .. } | Call::RowAccepts { .. } => {
-                self.make_plain(call)
-            }
-            Call::WritePiece { .. } => self.make_write_piece(call, &mut outcome.output),
-            Call::Receive { store, bus, image } => self.make_receive(*store, *bus, image),
-            Call::Read { store, slot } => self.make_read(*store, *slot, &mut outcome.start),
-            Call::Open { bus, fields } => self.make_open(*bus, fields),
-            Call::StationNew { .. } | Call::Close { .. } => self.make_on_station(call),
-            Call::MasterNew
-            | Call::MasterStart { .. }
-            | Call::MasterReply { .. }
-            | Call::MasterTimeout => self.make_on_master(call),
-            Call::WatchNew { .. } | Call::WatchHeard { .. } | Call::WatchCheck { .. } => {
-                self.make_on_watch(call)
-            }
-        }?;
-        Ok(outcome)
-    }
-
-    /// Calls that are lent nothing, or a row alone.
-    fn make_plain(&mut self, call: &Call) -> Result<u32, Difference> {
-        match call {
-            Call::PieceCount { format, size } => {
-                // SAFETY: no pointer is handed over.
-                let got = unsafe { self.library.piece_count(*format, *size) };
-                same(interface::piece_count(*format, *size), got)
-            }
-            Call::FilterAccepts { code, mask, id } => {
-                // SAFETY: no pointer is handed over.
-                let got = unsafe { self.library.filter_accepts(*code, *mask, *id) };
-                let expected = interface::filter_accepts(*code, *mask, *id);
-                same(u32::from(expected), u32::from(got))
-            }
-            Call::RowAccepts { row, id } => {
-                let (row_at, length) = lend(&mut self.lents.row, self.layout, self.calls, row);
-                // SAFETY: the buffer is lent with its length, here and in all calls below.
-                let got = unsafe { self.library.row_accepts(row_at, length, *id) };
-                let answer = same(interface::row_accepts(row, *id), got)?;
-                self.lents.row.compare(row)?;
-                Ok(answer)
-            }
-            _ => unreachable!("a call with a part or an output"),
-        }
-    }
-
-    fn make_write_piece(&mut self, call: &Call, after: &mut Vec<u8>) -> Result<u32, Difference> {
-        let Call::WritePiece {
-            format,
-            fields,
-            packet,
-            k,
-            output,
-        } = call
-        else {
-            unreachable!("another call");
-        };
-        let (layout, shift) = (self.layout, self.calls);
-        let fields_lent = lend(&mut self.lents.fields, layout, shift, fields);
-        let packet_lent = lend(&mut self.lents.packet, layout, shift / 2, packet);
-        let output_lent = lend(&mut self.lents.output, layout, shift / 4, output);
-        let got = unsafe {
-            self.library.write_piece(
-                *format,
-                fields_lent.0,
-                fields_lent.1,
-                packet_lent.0,
-                packet_lent.1,
-                *k,
-                output_lent.0,
-                output_lent.1,
-            )
-        };
-        after.extend_from_slice(output);
-        let answer = same(
-            interface::write_piece(*format, fields, packet, *k, after),
-            got,
-        )?;
-        self.lents.fields.compare(fields)?;
-        self.lents.packet.compare(packet)?;
-        self.lents.output.compare(after)?;
-        Ok(answer)
-    }
-
-    fn make_on_station(&mut self, call: &Call) -> Result<u32, Difference> {
-        let (station, length) = self.lend_state(Part::Station);
-        let own = &mut self.parts.station;
-        let (expected, got) = match call {
-            Call::StationNew { format } => (interface::station_new(own, *format), unsafe {
-                self.library.station_new(station, length, *format)
-            }),
-            Call::Close { slot } => (interface::close(own, *slot), unsafe {
-                self.library.close(station, length, *slot)
-            }),
-            _ => unreachable!("a call of another part"),
-        };
-        let answer = same(expected, got)?;
-        self.lents.state.compare(&self.parts.station)?;
-        Ok(answer)
-    }
-
-    fn make_open(&mut self, bus: u8, fields: &[u8]) -> Result<u32, Difference> {
-        let (station, length) = self.lend_state(Part::Station);
-        let fields_lent = lend(&mut self.lents.fields, self.layout, self.calls / 2, fields);
-        let got = unsafe {
-            self.library
-                .open(station, length, bus, fields_lent.0, fields_lent.1)
-        };
-        let expected = interface::open(&mut self.parts.station, bus, fields);
-        let answer = same(expected, got)?;
-        self.lents.state.compare(&self.parts.station)?;
-        self.lents.fields.compare(fields)?;
-        Ok(answer)
-    }
-
-    fn make_receive(&mut self, store: Store, bus: u8, image: &[u8]) -> Result<u32, Difference> {
-        let (station, length) = self.lend_state(Part::Station);
-        let image_lent = lend(&mut self.lents.image, self.layout, self.calls / 2, image);
-        let mut other = other_store(store);
-        let (store_at, store_length) = self.lend_one_store(&other);
-        let got = unsafe {
-            self.library.receive(
-                station,
-                length,
-                store_at,
-                store_length,
-                bus,
-                image_lent.0,
-                image_lent.1,
-            )
-        };
-        let store = other.as_mut().unwrap_or(&mut self.parts.store);
-        let expected = interface::receive(&mut self.parts.station, store, bus, image);
-        let answer = same(expected, got)?;
-        self.lents.state.compare(&self.parts.station)?;
-        self.lents.image.compare(image)?;
-        self.compare_one_store(&other)?;
-        Ok(answer)
-    }
-
-    fn make_read(
-        &mut self,
-        store: Store,
-        slot: usize,
-        start: &mut usize,
-    ) -> Result<u32, Difference> {
-        let (station, length) = self.lend_state(Part::Station);
-        let other = other_store(store);
-        let (store_at, store_length) = self.lend_one_store(&other);
-        // A size_t has to be aligned, so this buffer is never shifted.
-        let (start_at, _) = lend(&mut self.lents.start, self.layout, 0, &START.to_ne_bytes());
-        let got = unsafe {
-            self.library.read(
-                station,
-                length,
-                store_at,
-                store_length,
-                slot,
-                start_at.cast(),
-            )
-        };
-        let lent = other.as_ref().unwrap_or(&self.parts.store);
-        let (expected, place) = interface::read(&self.parts.station, lent, slot);
-        let answer = same(expected, got)?;
-        *start = place.unwrap_or(START);
-        self.lents.start.compare(&start.to_ne_bytes())?;
-        self.lents.state.compare(&self.parts.station)?;
-        self.compare_one_store(&other)?;
-        Ok(answer)
-    }
-
-    fn make_on_master(&mut self, call: &Call) -> Result<u32, Difference> {
-        let (master, length) = self.lend_state(Part::Master);
-        let own = &mut self.parts.master;
-        let (expected, got) = match *call {
-            Call::MasterNew => (interface::master_new(own), unsafe {
-                self.library.master_new(master, length)
-            }),
-            Call::MasterStart { kind, node } => {
-                (interface::master_start(own, kind, node), unsafe {
-                    self.library.master_start(master, length, kind, node)
-                })
-            }
-            Call::MasterReply {
-                bus,
-                node,
-                function,
-            } => (interface::master_reply(own, bus, node, function), unsafe {
-                self.library
-                    .master_reply(master, length, bus, node, function)
-            }),
-            Call::MasterTimeout => (interface::master_timeout(own), unsafe {
-                self.library.master_timeout(master, length)
-            }),
-            _ => unreachable!("a call of another part"),
-        };
-        let answer = same(expected, got)?;
-        self.lents.state.compare(&self.parts.master)?;
-        Ok(answer)
-    }
-
-    fn make_on_watch(&mut self, call: &Call) -> Result<u32, Difference> {
-        let (watch, length) = self.lend_state(Part::Watch);
-        let own = &mut self.parts.watch;
-        let (expected, got) = match *call {
-            Call::WatchNew { now } => (interface::watch_new(own, now), unsafe {
-                self.library.watch_new(watch, length, now)
-            }),
-            Call::WatchHeard { bus, now } => (interface::watch_heard(own, bus, now), unsafe {
-                self.library.watch_heard(watch, length, bus, now)
-            }),
-            Call::WatchCheck { now } => (interface::watch_check(own, now), unsafe {
-                self.library.watch_check(watch, length, now)
-            }),
-            _ => unreachable!("a call of another part"),
-        };
-        let answer = same(expected, got)?;
-        self.lents.state.compare(&self.parts.watch)?;
-        Ok(answer)
-    }
-
-    /// Lends the library a copy of a part's bytes as they are before the call.
-    fn lend_state(&mut self, part: Part) -> Buffer {
-        let bytes = self.parts.get(part);
-        lend(&mut self.lents.state, self.layout, self.calls, bytes)
-    }
-
-    /// The store of a call: its own, or one for it alone.
-    fn lend_one_store(&mut self, other: &Option<Vec<u8>>) -> Buffer {
-        match other {
-            Some(bytes) => lend(&mut self.lents.other_store, self.layout, self.calls, bytes),
-            None => {
-                let arena = &self.lents.store.arena;
-                (arena.pointer(self.calls), arena.length())
+    /// The call for fuzz/replay.c: the number of its function, and its arguments.
+    fn begin_record(&self, call: &Call) -> Vec<u8> {
+        let mut record = Vec::new();
+        if self.recording {
+            record.push(call.function() as u8);
+            for (_, value) in call.arguments() {
+                value.record(&mut record);
             }
         }
-    }
-
-    fn compare_one_store(&self, other: &Option<Vec<u8>>) -> Result<(), Difference> {
-        match other {
-            Some(bytes) => self.lents.other_store.compare(bytes),
-            None if self.calls.is_multiple_of(self.store_every) => self.compare_store(),
-            None => self.lents.store.compare_outside(),
-        }
-    }
-
-    /// The library keeps its store from call to call: a copy of 32 KiB at each would be slow.
-    fn lend_store(&mut self) {
-        let arena = &mut self.lents.store.arena;
-        arena.lend(self.layout, self.calls, &self.parts.store);
+        record
     }
 }
 
-fn lend(lent: &mut Lent, layout: Layout, shift: usize, bytes: &[u8]) -> Buffer {
-    lent.arena.lend(layout, shift, bytes);
-    (lent.arena.pointer(shift), bytes.len())
+macro_rules! make {
+    ($(
+        $function:ident as $name:ident($($argument:ident $([$length:ident])?: $kind:ty),*) -> $answer:ty;
+    )*) => {
+        impl<L: Library> Bench<L> {
+            /// Makes the call and compares. After a difference the parts are no more to be used.
+            pub fn make(&mut self, call: &Call) -> Result<Outcome, Difference> {
+                self.lents.begin_call();
+                let mut record = self.begin_record(call);
+                let answer = match call {
+                    $(Call::$name { $($argument),* } => {
+                        $(let mut $argument = $argument.hold(stringify!($argument), &mut self.parts);)*
+                        $($argument.lend(&mut self.lents);)*
+                        // SAFETY: every buffer is lent with its length.
+                        let got = unsafe {
+                            self.library.$name(
+                                $($argument.raw() $(, { let $length = $argument.length(); $length })?),*
+                            )
+                        };
+                        let expected = interface::$name($($argument.hand()),*);
+                        let answer = same(u32::from(expected), u32::from(got))?;
+                        $($argument.compare(&self.lents)?;)*
+                        if self.recording {
+                            record.extend(answer.to_le_bytes());
+                            $($argument.record_after(&mut record);)*
+                        }
+                        $($argument.put_back(&mut self.parts);)*
+                        answer
+                    })*
+                };
+                Ok(Outcome { answer, record })
+            }
+        }
+    };
 }
 
-fn other_store(store: Store) -> Option<Vec<u8>> {
-    match store {
-        Store::Own => None,
-        Store::Other(length) => Some(vec![0xB7; length]),
-    }
-}
+siljuvatt::calls!(make);
 
 fn same(expected: u32, got: u32) -> Result<u32, Difference> {
-    if expected == got {
-        Ok(got)
-    } else {
-        Err(Difference::Answer { expected, got })
-    }
-}
-
-impl fmt::Display for Parts {
-    fn fmt(&self, f: &mut fmt::Formatter) -> fmt::Result {
-        writeln!(f, "station {}", Hex(&self.station))?;
-        writeln!(f, "master {}", Hex(&self.master))?;
-        write!(f, "watch {}", Hex(&self.watch))
+    match expected == got {
+        true => Ok(got),
+        false => Err(Difference::Answer { expected, got }),
     }
 }

@@ -69,7 +69,8 @@ pub fn run<L: Library, W: Write>(
     recorder: &mut Option<Recorder<W>>,
 ) -> Result<Tally, Box<Failure>> {
     // Comparing 32 KiB at each call is cheap but for valgrind.
-    let mut bench = Bench::new(library, if options.heap { 64 } else { 1 });
+    let store_every = if options.heap { 64 } else { 1 };
+    let mut bench = Bench::new(library, store_every, recorder.is_some());
     let mut tally = Tally::new();
     let mut number = options.sequence.unwrap_or(0);
     loop {
@@ -99,7 +100,7 @@ fn run_sequence<L: Library, W: Write>(
         sequence: number,
         number: 0,
         call: None,
-        parts: Parts::new(),
+        parts: Parts::default(),
     };
     while let Some(step) = sequence.next(bench.parts()) {
         match step {
@@ -116,7 +117,8 @@ fn run_sequence<L: Library, W: Write>(
         }
     }
     place.call = None;
-    recorder.iter_mut().for_each(|to| to.end(bench.parts()));
+    let store = &bench.parts().store;
+    recorder.iter_mut().for_each(|to| to.end(store));
     bench
         .compare_store()
         .map_err(|difference| Box::new(Failure { place, difference }))
@@ -147,9 +149,8 @@ fn make<L: Library, W: Write>(
     match made {
         Ok(outcome) => {
             tally.count(call, &before, outcome.answer);
-            recorder
-                .iter_mut()
-                .for_each(|to| to.call(call, &outcome, bench.parts()));
+            let record = &outcome.record;
+            recorder.iter_mut().for_each(|to| to.call(record));
             Ok(())
         }
         Err(difference) => {

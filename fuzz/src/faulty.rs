@@ -5,14 +5,17 @@ use std::io::Sink;
 use std::process::Command;
 use std::{env, ptr, slice};
 
-use second::interface;
+use second::interface::{self, MASTER_SIZE, SEND, STATION_SIZE};
+use second::station::STORE_SIZE;
+use second::stream::AREA_SIZE;
+use siljuvatt::raw::Argument;
 
 use crate::bench::Difference;
-use crate::call::{Call, FUNCTIONS};
+use crate::call::Call;
 use crate::crash;
 use crate::driver::{run, Failure, Options};
 use crate::huge;
-use crate::library::Library;
+use crate::library::{lent, Library, Raw, RawAnswer, FUNCTIONS};
 use crate::tally::Tally;
 
 /// A buffer that a call was lent.
@@ -24,19 +27,82 @@ struct Lent {
 }
 
 impl Lent {
-    fn new(name: &'static str, at: *const u8, length: usize) -> Lent {
-        let at = at.cast_mut();
-        Lent { name, at, length }
-    }
-
     /// Changes a bit of the byte at a place, which may lie outside.
     unsafe fn spoil(&self, place: isize) {
         *self.at.offset(place) ^= 0x10;
     }
 }
 
+/// What a library is handed, seen as what the model takes.
+trait Seen<'a>: Argument {
+    unsafe fn seen(raw: Self::Raw, length: usize) -> Self;
+
+    /// Where the bytes are that it is lent, and how many.
+    fn lent(_raw: &Self::Raw, _length: usize) -> Option<(*mut u8, usize)> {
+        None
+    }
+}
+
+macro_rules! seen_as_they_are {
+    ($($number:ty),*) => {$(
+        impl Seen<'_> for $number {
+            unsafe fn seen(raw: $number, _: usize) -> $number {
+                raw
+            }
+        }
+    )*};
+}
+
+seen_as_they_are!(u8, u16, u32, usize);
+
+impl<'a> Seen<'a> for &'a [u8] {
+    unsafe fn seen(raw: *const u8, length: usize) -> &'a [u8] {
+        match length {
+            0 => &[],
+            _ => slice::from_raw_parts(raw, length),
+        }
+    }
+
+    fn lent(raw: &*const u8, length: usize) -> Option<(*mut u8, usize)> {
+        Some((raw.cast_mut(), length))
+    }
+}
+
+impl<'a> Seen<'a> for &'a mut [u8] {
+    unsafe fn seen(raw: *mut u8, length: usize) -> &'a mut [u8] {
+        match length {
+            0 => &mut [],
+            _ => slice::from_raw_parts_mut(raw, length),
+        }
+    }
+
+    fn lent(raw: &*mut u8, length: usize) -> Option<(*mut u8, usize)> {
+        Some((*raw, length))
+    }
+}
+
+impl<'a> Seen<'a> for &'a [u8; 8] {
+    unsafe fn seen(raw: *const [u8; 8], _: usize) -> &'a [u8; 8] {
+        &*raw
+    }
+
+    fn lent(raw: &*const [u8; 8], _: usize) -> Option<(*mut u8, usize)> {
+        Some((raw.cast_mut().cast(), 8))
+    }
+}
+
+impl<'a> Seen<'a> for &'a mut usize {
+    unsafe fn seen(raw: *mut usize, _: usize) -> &'a mut usize {
+        &mut *raw
+    }
+
+    fn lent(raw: &*mut usize, _: usize) -> Option<(*mut u8, usize)> {
+        Some((raw.cast(), size_of::<usize>()))
+    }
+}
+
 /// What a faulty library does after a call that the model made: it may spoil buffers, and it gives the answer.
-type Spoil = fn(&[Lent], u32) -> u32;
+type Spoil = Box<dyn Fn(&[Lent], u32) -> u32>;
 
 /// The model in the library's place, with a fault in one function.
 struct Faulty {
@@ -47,6 +113,14 @@ struct Faulty {
 }
 
 impl Faulty {
+    fn new(function: &'static str, spoil: impl Fn(&[Lent], u32) -> u32 + 'static) -> Faulty {
+        Faulty {
+            function,
+            spoil: Box::new(spoil),
+            calls: Cell::new(0),
+        }
+    }
+
     fn end(&self, function: &str, lent: &[Lent], answer: u32) -> u32 {
         if function != self.function {
             return answer;
@@ -59,192 +133,26 @@ impl Faulty {
     }
 }
 
-unsafe fn part<'a>(at: *const u8, length: usize) -> &'a [u8] {
-    match length {
-        0 => &[],
-        _ => slice::from_raw_parts(at, length),
-    }
-}
-
-unsafe fn part_mut<'a>(at: *mut u8, length: usize) -> &'a mut [u8] {
-    match length {
-        0 => &mut [],
-        _ => slice::from_raw_parts_mut(at, length),
-    }
-}
-
-impl Library for Faulty {
-    unsafe fn piece_count(&self, format: u8, size: usize) -> u32 {
-        self.end("piece_count", &[], interface::piece_count(format, size))
-    }
-
-    unsafe fn write_piece(
-        &self,
-        format: u8,
-        fields: *const u8,
-        fields_length: usize,
-        packet: *const u8,
-        packet_length: usize,
-        k: usize,
-        output: *mut u8,
-        output_length: usize,
-    ) -> u32 {
-        let answer = interface::write_piece(
-            format,
-            part(fields, fields_length),
-            part(packet, packet_length),
-            k,
-            part_mut(output, output_length),
-        );
-        let lent = [
-            Lent::new("output", output, output_length),
-            Lent::new("packet", packet, packet_length),
-            Lent::new("fields", fields, fields_length),
-        ];
-        self.end("write_piece", &lent, answer)
-    }
-
-    unsafe fn station_new(&self, station: *mut u8, length: usize, format: u8) -> u32 {
-        let answer = interface::station_new(part_mut(station, length), format);
-        self.end(
-            "station_new",
-            &[Lent::new("station", station, length)],
-            answer,
-        )
-    }
-
-    unsafe fn open(
-        &self,
-        station: *mut u8,
-        length: usize,
-        bus: u8,
-        fields: *const u8,
-        fields_length: usize,
-    ) -> u32 {
-        let fields_part = part(fields, fields_length);
-        let answer = interface::open(part_mut(station, length), bus, fields_part);
-        let lent = [
-            Lent::new("station", station, length),
-            Lent::new("fields", fields, fields_length),
-        ];
-        self.end("open", &lent, answer)
-    }
-
-    unsafe fn close(&self, station: *mut u8, length: usize, slot: usize) -> u32 {
-        let answer = interface::close(part_mut(station, length), slot);
-        self.end("close", &[Lent::new("station", station, length)], answer)
-    }
-
-    unsafe fn receive(
-        &self,
-        station: *mut u8,
-        length: usize,
-        store: *mut u8,
-        store_length: usize,
-        bus: u8,
-        image: *const u8,
-        image_length: usize,
-    ) -> u32 {
-        let answer = interface::receive(
-            part_mut(station, length),
-            part_mut(store, store_length),
-            bus,
-            part(image, image_length),
-        );
-        let lent = [
-            Lent::new("station", station, length),
-            Lent::new("store", store, store_length),
-            Lent::new("image", image, image_length),
-        ];
-        self.end("receive", &lent, answer)
-    }
-
-    unsafe fn read(
-        &self,
-        station: *const u8,
-        length: usize,
-        store: *const u8,
-        store_length: usize,
-        slot: usize,
-        start: *mut usize,
-    ) -> u32 {
-        let (answer, place) =
-            interface::read(part(station, length), part(store, store_length), slot);
-        if let Some(place) = place {
-            *start = place;
+macro_rules! faulty {
+    ($(
+        $function:ident as $name:ident($($argument:ident $([$length:ident])?: $kind:ty),*) -> $answer:ty;
+    )*) => {
+        impl Library for Faulty {
+            $(unsafe fn $name(&self, $($argument: Raw<$kind> $(, $length: usize)?),*) -> RawAnswer<$answer> {
+                #[allow(unused_mut)]
+                let mut lent = Vec::new();
+                $(lent.extend(<$kind>::lent(&$argument, 0 $(+ $length)?).map(|(at, length)| {
+                    let name = stringify!($argument);
+                    Lent { name, at, length }
+                }));)*
+                let answer = interface::$name($(Seen::seen($argument, 0 $(+ $length)?)),*);
+                self.end(stringify!($name), &lent, u32::from(answer)) as RawAnswer<$answer>
+            })*
         }
-        let lent = [
-            Lent::new("station", station, length),
-            Lent::new("store", store, store_length),
-            Lent::new("start", start.cast(), 8),
-        ];
-        self.end("read", &lent, answer)
-    }
-
-    unsafe fn filter_accepts(&self, code: u16, mask: u16, id: u16) -> u8 {
-        let answer = u32::from(interface::filter_accepts(code, mask, id));
-        self.end("filter_accepts", &[], answer) as u8
-    }
-
-    unsafe fn row_accepts(&self, row: *const u8, length: usize, id: u16) -> u32 {
-        let answer = interface::row_accepts(part(row, length), id);
-        self.end("row_accepts", &[Lent::new("row", row, length)], answer)
-    }
-
-    unsafe fn master_new(&self, master: *mut u8, length: usize) -> u32 {
-        let answer = interface::master_new(part_mut(master, length));
-        self.end("master_new", &[Lent::new("master", master, length)], answer)
-    }
-
-    unsafe fn master_start(&self, master: *mut u8, length: usize, kind: u8, node: u8) -> u32 {
-        let answer = interface::master_start(part_mut(master, length), kind, node);
-        self.end(
-            "master_start",
-            &[Lent::new("master", master, length)],
-            answer,
-        )
-    }
-
-    unsafe fn master_reply(
-        &self,
-        master: *mut u8,
-        length: usize,
-        bus: u8,
-        node: u8,
-        function: u8,
-    ) -> u32 {
-        let answer = interface::master_reply(part_mut(master, length), bus, node, function);
-        self.end(
-            "master_reply",
-            &[Lent::new("master", master, length)],
-            answer,
-        )
-    }
-
-    unsafe fn master_timeout(&self, master: *mut u8, length: usize) -> u32 {
-        let answer = interface::master_timeout(part_mut(master, length));
-        self.end(
-            "master_timeout",
-            &[Lent::new("master", master, length)],
-            answer,
-        )
-    }
-
-    unsafe fn watch_new(&self, watch: *mut u8, length: usize, now: u32) -> u32 {
-        let answer = interface::watch_new(part_mut(watch, length), now);
-        self.end("watch_new", &[Lent::new("watch", watch, length)], answer)
-    }
-
-    unsafe fn watch_heard(&self, watch: *mut u8, length: usize, bus: u8, now: u32) -> u32 {
-        let answer = interface::watch_heard(part_mut(watch, length), bus, now);
-        self.end("watch_heard", &[Lent::new("watch", watch, length)], answer)
-    }
-
-    unsafe fn watch_check(&self, watch: *mut u8, length: usize, now: u32) -> u32 {
-        let answer = interface::watch_check(part_mut(watch, length), now);
-        self.end("watch_check", &[Lent::new("watch", watch, length)], answer)
-    }
+    };
 }
+
+siljuvatt::calls!(faulty);
 
 fn options(calls: u64) -> Options {
     Options {
@@ -256,21 +164,19 @@ fn options(calls: u64) -> Options {
     }
 }
 
-fn run_faulty(function: &'static str, spoil: Spoil) -> Result<Tally, Box<Failure>> {
-    let calls = Cell::new(0);
-    let library = Faulty {
-        function,
-        spoil,
-        calls,
-    };
+fn run_faulty(
+    function: &'static str,
+    spoil: impl Fn(&[Lent], u32) -> u32 + 'static,
+) -> Result<Tally, Box<Failure>> {
+    let library = Faulty::new(function, spoil);
     run::<_, Sink>(library, &options(30_000), &mut None)
 }
 
 /// The difference that a fault in a function comes to; it is in a call of that function.
-fn noticed(function: &'static str, spoil: Spoil) -> Difference {
+fn noticed(function: &'static str, spoil: impl Fn(&[Lent], u32) -> u32 + 'static) -> Difference {
     let failure = run_faulty(function, spoil).err().expect(function);
     let call = failure.place.call.as_ref().expect("a call");
-    assert_eq!(FUNCTIONS[call.function()], function);
+    assert_eq!(call.name(), function);
     failure.difference
 }
 
@@ -283,7 +189,7 @@ fn without_a_fault_nothing_is_noticed() {
 
 #[test]
 fn an_answer_one_too_high() {
-    for function in FUNCTIONS {
+    for &function in FUNCTIONS {
         let difference = noticed(function, |_, answer| answer + 1);
         let Difference::Answer { expected, got } = difference else {
             panic!("{function}: {difference}");
@@ -309,23 +215,11 @@ fn an_answer_that_differs_in_any_bit() {
     ));
 }
 
-/// Every function that is lent a buffer.
-const LENDING: [&str; 14] = [
-    "write_piece",
-    "station_new",
-    "open",
-    "close",
-    "receive",
-    "read",
-    "row_accepts",
-    "master_new",
-    "master_start",
-    "master_reply",
-    "master_timeout",
-    "watch_new",
-    "watch_heard",
-    "watch_check",
-];
+/// Every function that is lent a buffer, with the names of those.
+fn lending() -> Vec<(&'static str, Vec<&'static str>)> {
+    let functions = FUNCTIONS.iter().copied().zip(lent());
+    functions.filter(|(_, lent)| !lent.is_empty()).collect()
+}
 
 /// Changes a byte outside each buffer, but where it lies on a page without access.
 fn spoil_outside(lent: &[Lent], place: impl Fn(&Lent) -> isize) {
@@ -344,7 +238,7 @@ fn spoil_outside(lent: &[Lent], place: impl Fn(&Lent) -> isize) {
 
 #[test]
 fn a_byte_written_past_the_end() {
-    for function in LENDING {
+    for (function, _) in lending() {
         let difference = noticed(function, |lent, answer| {
             spoil_outside(lent, |lent| lent.length as isize);
             answer
@@ -358,7 +252,7 @@ fn a_byte_written_past_the_end() {
 
 #[test]
 fn a_byte_written_before_the_beginning() {
-    for function in LENDING {
+    for (function, _) in lending() {
         let difference = noticed(function, |lent, answer| {
             spoil_outside(lent, |_| -1);
             answer
@@ -380,54 +274,32 @@ fn spoil_last(lent: &[Lent], name: &str) {
 
 #[test]
 fn a_byte_of_each_buffer_that_is_not_what_it_should_be() {
-    macro_rules! notices {
-        ($($function:literal, $name:literal, $printed:literal;)*) => {$(
-            let difference = noticed($function, |lent, answer| {
-                spoil_last(lent, $name);
+    for (function, buffers) in lending() {
+        for buffer in buffers {
+            let difference = noticed(function, move |lent, answer| {
+                spoil_last(lent, buffer);
                 answer
             });
-            let right = matches!(difference, Difference::Byte { name: $printed, .. });
-            assert!(right, "{} {}: {difference}", $function, $name);
-        )*};
-    }
-    notices! {
-        "write_piece", "output", "output";
-        "write_piece", "packet", "packet";
-        "write_piece", "fields", "fields";
-        "station_new", "station", "state";
-        "open", "station", "state";
-        "open", "fields", "fields";
-        "close", "station", "state";
-        "receive", "station", "state";
-        "receive", "store", "store";
-        "receive", "image", "image";
-        "read", "station", "state";
-        "read", "store", "store";
-        "read", "start", "start";
-        "row_accepts", "row", "row";
-        "master_new", "master", "state";
-        "master_start", "master", "state";
-        "master_reply", "master", "state";
-        "master_timeout", "master", "state";
-        "watch_new", "watch", "state";
-        "watch_heard", "watch", "state";
-        "watch_check", "watch", "state";
+            let right = matches!(difference, Difference::Byte { name, .. } if name == buffer);
+            assert!(right, "{function} {buffer}: {difference}");
+        }
     }
 }
 
 #[test]
 fn a_byte_left_unwritten() {
-    // The state before a start has no exchange, so its send count is left at 0.
+    // The master before a start has no exchange, so its send count is left at 0.
+    const SENDS: usize = MASTER_SIZE - 2;
     let difference = noticed("master_start", |lent, answer| {
-        if answer >> 16 == 1 {
-            // SAFETY: a master that answers so has 67 bytes.
-            unsafe { *lent[0].at.add(66) = 0 };
+        if answer >> 16 == SEND {
+            // SAFETY: a master that answers so has all its bytes.
+            unsafe { *lent[0].at.add(SENDS) = 0 };
         }
         answer
     });
     let expected = Difference::Byte {
-        name: "state",
-        at: 66,
+        name: "master",
+        at: SENDS,
         expected: 1,
         got: 0,
     };
@@ -448,27 +320,24 @@ fn a_start_written_by_a_refused_read() {
 
 #[test]
 fn a_length_taken_for_one_of_32_bits() {
-    let sound = |_: &[Lent], answer| answer;
-    let model = |function, spoil| Faulty {
-        function,
-        spoil,
-        calls: Cell::new(100),
-    };
-    assert_eq!(huge::check(&model("none", sound)), Ok(20));
-    let said = huge::check(&model("master_timeout", |_, _| 0x0001_0000));
+    let sound = Faulty::new("none", |_, answer| answer);
+    assert_eq!(huge::check(&sound), Ok(19));
+    let wrong = Faulty::new("master_timeout", |_, _| SEND << 16);
+    wrong.calls.set(100);
+    let said = huge::check(&wrong);
     assert!(said.is_err_and(|said| said.starts_with("master_timeout: master of over 2^32")));
 }
 
 #[test]
 fn a_byte_of_another_streams_area() {
     let difference = noticed("receive", |lent, answer| {
-        if lent[1].length == 32_768 {
+        if lent[1].length == STORE_SIZE {
             // SAFETY: the store has this byte.
-            unsafe { lent[1].spoil(15 * 2048 + 2047) };
+            unsafe { lent[1].spoil(STORE_SIZE as isize - 1) };
         }
         answer
     });
-    let expected = 15 * 2048 + 2047;
+    let expected = 15 * AREA_SIZE + AREA_SIZE - 1;
     assert!(matches!(difference, Difference::Byte { name: "store", at, .. } if at == expected));
 }
 
@@ -508,11 +377,8 @@ fn a_failure_can_be_run_again_alone() {
     let failure = run_faulty("close", |_, answer| answer + 1)
         .err()
         .expect("a fault");
-    let library = Faulty {
-        function: "close",
-        spoil: |_, answer| answer + 1,
-        calls: Cell::new(100),
-    };
+    let library = Faulty::new("close", |_, answer| answer + 1);
+    library.calls.set(100);
     let mut again = options(1);
     again.sequence = Some(failure.place.sequence);
     let second = run::<_, Sink>(library, &again, &mut None)
@@ -521,11 +387,11 @@ fn a_failure_can_be_run_again_alone() {
     // The fault was there from the sequence's first such call on.
     assert_eq!(second.place.sequence, failure.place.sequence);
     assert!(second.place.number <= failure.place.number);
-    assert!(matches!(second.place.call, Some(Call::Close { .. })));
+    assert!(matches!(second.place.call, Some(Call::close { .. })));
     let said = failure.to_string();
     assert!(said.contains("answer 0x"));
     assert!(said.contains("siljuvatt_close(station, slot "));
-    assert!(said.contains("station 129 bytes {"));
+    assert!(said.contains(&format!("station {STATION_SIZE} bytes {{")));
     let place = format!("seed 1, sequence {}, call ", failure.place.sequence);
     assert!(said.contains(&place));
 }

@@ -3,11 +3,12 @@
 //! The addresses are all good, in a mapping that has no memory behind it until it is touched.
 
 use second::format::Format;
-use second::interface::{master_bytes, refused, station_bytes};
+use second::interface::{master_bytes, refused, station_bytes, watch_bytes};
 use second::interface::{MASTER_SIZE, STATION_SIZE, WATCH_SIZE};
 use second::master::Master;
 use second::refusal::Refusal;
 use second::station::{Station, STORE_SIZE};
+use second::watch::Watch;
 
 use crate::library::Library;
 use crate::memory::Mapping;
@@ -28,7 +29,7 @@ pub fn check<L: Library>(library: &L) -> Result<usize, String> {
     };
     huge.stations()?;
     huge.lent_to_stations()?;
-    huge.pieces_and_rows()?;
+    huge.pieces()?;
     huge.masters()?;
     huge.watches()?;
     Ok(huge.calls)
@@ -93,7 +94,7 @@ impl<L: Library> Huge<'_, L> {
         self.refused("open: fields", Refusal::Field, got)
     }
 
-    fn pieces_and_rows(&mut self) -> Result<(), String> {
+    fn pieces(&mut self) -> Result<(), String> {
         let (library, huge) = (self.library, self.mapping.begin_with(&FIELDS));
         let (fields, packet, mut output) = (FIELDS.as_ptr(), IMAGE.as_ptr(), [0; 13]);
         let output = output.as_mut_ptr();
@@ -103,9 +104,7 @@ impl<L: Library> Huge<'_, L> {
         self.refused("write_piece: packet", Refusal::Size, got)?;
         // Room there is, so this one is written.
         let got = unsafe { library.write_piece(0, fields, 5, packet, 1, 0, huge, OVER + 1) };
-        self.same("write_piece: output", 6, got)?;
-        let got = unsafe { library.row_accepts(huge, OVER + 8, 0) };
-        self.refused("row_accepts: row", Refusal::Field, got)
+        self.same("write_piece: output", 6, got)
     }
 
     fn masters(&mut self) -> Result<(), String> {
@@ -123,7 +122,7 @@ impl<L: Library> Huge<'_, L> {
 
     fn watches(&mut self) -> Result<(), String> {
         let (library, length) = (self.library, OVER + WATCH_SIZE);
-        let watch = self.mapping.begin_with(&[0; WATCH_SIZE]);
+        let watch = self.mapping.begin_with(&watch_bytes(&Watch::new(0)));
         let got = unsafe { library.watch_new(watch, length, 0) };
         self.refused("watch_new: watch", Refusal::State, got)?;
         let got = unsafe { library.watch_heard(watch, length, 0, 0) };

@@ -1,68 +1,86 @@
-//! The library's functions, as its header declares them.
+//! The library's functions, from their one declaration (`siljuvatt::calls!`).
 
-/// What is compared with the model: the library itself, or in tests a faulty one.
-///
-/// # Safety
-///
-/// A pointer is good for as many bytes as the length behind it says.
-#[allow(clippy::missing_safety_doc, clippy::too_many_arguments)]
-pub trait Library {
-    unsafe fn piece_count(&self, format: u8, size: usize) -> u32;
-    unsafe fn write_piece(
-        &self,
-        format: u8,
-        fields: *const u8,
-        fields_length: usize,
-        packet: *const u8,
-        packet_length: usize,
-        k: usize,
-        output: *mut u8,
-        output_length: usize,
-    ) -> u32;
-    unsafe fn station_new(&self, station: *mut u8, length: usize, format: u8) -> u32;
-    unsafe fn open(
-        &self,
-        station: *mut u8,
-        length: usize,
-        bus: u8,
-        fields: *const u8,
-        fields_length: usize,
-    ) -> u32;
-    unsafe fn close(&self, station: *mut u8, length: usize, slot: usize) -> u32;
-    unsafe fn receive(
-        &self,
-        station: *mut u8,
-        length: usize,
-        store: *mut u8,
-        store_length: usize,
-        bus: u8,
-        image: *const u8,
-        image_length: usize,
-    ) -> u32;
-    unsafe fn read(
-        &self,
-        station: *const u8,
-        length: usize,
-        store: *const u8,
-        store_length: usize,
-        slot: usize,
-        start: *mut usize,
-    ) -> u32;
-    /// The C type bool is a byte, here kept as it came so that only 0 and 1 pass.
-    unsafe fn filter_accepts(&self, code: u16, mask: u16, id: u16) -> u8;
-    unsafe fn row_accepts(&self, row: *const u8, length: usize, id: u16) -> u32;
-    unsafe fn master_new(&self, master: *mut u8, length: usize) -> u32;
-    unsafe fn master_start(&self, master: *mut u8, length: usize, kind: u8, node: u8) -> u32;
-    unsafe fn master_reply(
-        &self,
-        master: *mut u8,
-        length: usize,
-        bus: u8,
-        node: u8,
-        function: u8,
-    ) -> u32;
-    unsafe fn master_timeout(&self, master: *mut u8, length: usize) -> u32;
-    unsafe fn watch_new(&self, watch: *mut u8, length: usize, now: u32) -> u32;
-    unsafe fn watch_heard(&self, watch: *mut u8, length: usize, bus: u8, now: u32) -> u32;
-    unsafe fn watch_check(&self, watch: *mut u8, length: usize, now: u32) -> u32;
+use siljuvatt::raw::{self, Answer, Argument};
+
+/// What a function is handed for an argument, and what it answers.
+pub type Raw<K> = <K as Argument>::Raw;
+pub type RawAnswer<A> = <A as Answer>::Raw;
+
+macro_rules! library {
+    ($(
+        $function:ident as $name:ident($($argument:ident $([$length:ident])?: $kind:ty),*) -> $answer:ty;
+    )*) => {
+        /// What is compared with the model: the library itself, or in tests a faulty one. A bool of C is a byte here,
+        /// so that only 0 and 1 pass.
+        ///
+        /// # Safety
+        ///
+        /// A pointer is good for as many bytes as the length behind it says, one without a length for what it points
+        /// to.
+        #[allow(clippy::missing_safety_doc, clippy::too_many_arguments)]
+        pub trait Library {
+            $(unsafe fn $name(&self, $($argument: Raw<$kind> $(, $length: usize)?),*) -> RawAnswer<$answer>;)*
+        }
+
+        /// The functions of libsiljuvatt.a.
+        pub struct Linked;
+
+        impl Library for Linked {
+            $(unsafe fn $name(&self, $($argument: Raw<$kind> $(, $length: usize)?),*) -> RawAnswer<$answer> {
+                raw::$function($($argument $(, $length)?),*)
+            })*
+        }
+
+        /// The functions, numbered as they are declared.
+        #[allow(non_camel_case_types)]
+        #[derive(Clone, Copy, Debug, PartialEq, Eq)]
+        pub enum Function {
+            $($name),*
+        }
+
+        /// All of them, in the order of the numbers.
+        pub fn functions() -> Vec<Function> {
+            vec![$(Function::$name),*]
+        }
+
+        /// Their names, in the order of the numbers.
+        pub const FUNCTIONS: &[&str] = &[$(stringify!($name)),*];
+
+        /// The names of each function's arguments that are lent, in the order of the numbers.
+        pub fn lent() -> Vec<Vec<&'static str>> {
+            let arguments: &[&[(&str, &str)]] = &[$(&[$((stringify!($argument), stringify!($kind))),*]),*];
+            let is_lent = |argument: &&(&str, &str)| argument.1.starts_with('&');
+            let names = |arguments: &&[(&'static str, &str)]| arguments.iter().filter(is_lent).map(|a| a.0).collect();
+            arguments.iter().map(names).collect()
+        }
+    };
+}
+
+siljuvatt::calls!(library);
+
+#[cfg(test)]
+mod tests {
+    use super::*;
+
+    #[test]
+    fn numbers_are_places() {
+        assert_eq!(FUNCTIONS[Function::watch_check as usize], "watch_check");
+        let lent = lent();
+        assert_eq!(lent.len(), FUNCTIONS.len());
+        assert_eq!(lent[Function::read as usize], ["station", "store", "start"]);
+        assert!(lent[Function::version as usize].is_empty());
+    }
+
+    /// In the header's order, so that a look at one finds the other.
+    #[test]
+    fn every_function_of_the_header_is_declared() {
+        let header = include_str!("../../library/include/siljuvatt.h");
+        let declared = header
+            .lines()
+            .filter(|line| line.starts_with("SILJUVATT_USE_ANSWER"))
+            .filter_map(|line| line.split_once(" siljuvatt_"))
+            .filter_map(|(_, rest)| rest.split_once('('))
+            .map(|(name, _)| name);
+        assert_eq!(declared.collect::<Vec<_>>(), FUNCTIONS);
+    }
 }

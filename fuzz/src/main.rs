@@ -1,7 +1,5 @@
 //! The driver: compares the library with the model, and says what came up.
 
-mod linked;
-
 use std::env;
 use std::io::{self, BufWriter, Write};
 use std::process::ExitCode;
@@ -10,6 +8,7 @@ use std::time::Instant;
 use fuzz::crash;
 use fuzz::driver::{run, Options};
 use fuzz::huge;
+use fuzz::library::Linked;
 use fuzz::record::Recorder;
 use fuzz::tally::Tally;
 
@@ -32,7 +31,7 @@ fn main() -> ExitCode {
     let begin = Instant::now();
     // The addresses need no memory, but valgrind would set some aside.
     if !options.heap && options.sequence.is_none() {
-        match huge::check(&linked::Linked) {
+        match huge::check(&Linked) {
             Ok(calls) => eprintln!("equal: {calls} calls with lengths over 2^32"),
             Err(said) => {
                 eprintln!("fuzz: a difference: {said}");
@@ -41,7 +40,7 @@ fn main() -> ExitCode {
         }
     }
     let mut recorder = record.then(|| Recorder::new(BufWriter::new(io::stdout().lock())));
-    let result = run(linked::Linked, &options, &mut recorder);
+    let result = run(Linked, &options, &mut recorder);
     match result {
         Ok(tally) => {
             recorder.map(|recorder| recorder.finish(tally.calls));

@@ -2,10 +2,11 @@
 
 use second::interface::{master_bytes, master_of};
 use second::master::{Kind, Master};
+use testkit::keys::NO_BUSES;
+use testkit::Random;
 
-use crate::call::{Call, Part};
+use crate::call::{Call, Part, MASTER};
 use crate::mutate::{mutate, sound_master, unsound_master, MASTER_WAYS};
-use crate::random::Random;
 use crate::sequence::{Step, Steps};
 use crate::tally::{List, Note};
 
@@ -35,8 +36,9 @@ impl MasterCalls {
 
     fn any_call(&self, master: &[u8], random: &mut Random) -> Call {
         match random.below(100) {
-            0..=1 => Call::MasterNew,
-            2..=31 => Call::MasterStart {
+            0..=1 => new(),
+            2..=31 => Call::master_start {
+                master: MASTER,
                 kind: match random.chance(40) {
                     true => random.pick(&[0, 4, 5, 129, 255]),
                     false => random.within(1, 3) as u8,
@@ -44,7 +46,7 @@ impl MasterCalls {
                 node: self.any_node(random),
             },
             32..=61 => self.reply(master, random),
-            _ => Call::MasterTimeout,
+            _ => Call::master_timeout { master: MASTER },
         }
     }
 
@@ -69,11 +71,12 @@ impl MasterCalls {
             0 => bus ^= 1,
             1 => node = self.any_node(random),
             2 => function = random.below(32) as u8,
-            3 if random.chance(500) => bus = random.pick(&[2, 3, 128, 255]),
+            3 if random.chance(500) => bus = random.pick(&NO_BUSES),
             3 => function = random.pick(&[32, 34, 36, 66, 255]),
             _ => {}
         }
-        Call::MasterReply {
+        Call::master_reply {
+            master: MASTER,
             bus,
             node,
             function,
@@ -105,7 +108,7 @@ impl MasterCalls {
         steps.push_back(Step::Set(Part::Master, bytes.clone(), Some(note)));
         for _ in 0..random.within(1, 3) {
             let call = match random.chance(150) {
-                true => Call::MasterNew,
+                true => new(),
                 false => self.any_call(&bytes, random),
             };
             steps.push_back(Step::Call(call));
@@ -114,6 +117,10 @@ impl MasterCalls {
             steps.push_back(Step::Set(Part::Master, master.to_vec(), None));
         }
     }
+}
+
+pub fn new() -> Call {
+    Call::master_new { master: MASTER }
 }
 
 /// The reply that the exchange under way awaits.

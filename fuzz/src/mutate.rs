@@ -1,13 +1,13 @@
 //! States that are sound, and states made of them that mostly are not.
 
 use second::format::Format;
-use second::interface::{master_bytes, station_bytes, MASTER_SIZE, STATION_SIZE};
+use second::interface::{master_bytes, station_bytes, watch_bytes, MASTER_SIZE, STATION_SIZE};
 use second::key::Key;
 use second::master::{Exchange, Kind, Master};
 use second::station::{Slot, Station, SLOT_COUNT};
 use second::stream::State;
-
-use crate::random::Random;
+use second::watch::Watch;
+use testkit::Random;
 
 /// The numbers of a record, as the header gives them.
 const STANDARD_MARK: u32 = 16_384;
@@ -15,7 +15,7 @@ const IDLE: u32 = 65_536;
 const COLLECTING: u32 = 131_072;
 const DONE: u32 = 196_608;
 
-/// The ways in which a state is changed; those of `STATION_WAYS` and `MASTER_WAYS` always make it unsound.
+/// The ways in which a state is changed; those of the lists below always make it unsound.
 pub const WAYS: [&str; 5] = [
     "a bit",
     "a byte",
@@ -25,7 +25,7 @@ pub const WAYS: [&str; 5] = [
 ];
 
 /// A record of a station made one that no station writes.
-pub const STATION_WAYS: [&str; 11] = [
+pub const STATION_WAYS: [&str; 12] = [
     "closed slot with a key",
     "closed slot with bytes held",
     "idle slot with bytes held",
@@ -37,17 +37,22 @@ pub const STATION_WAYS: [&str; 11] = [
     "key open twice",
     "format over 1",
     "other format with an open slot",
+    "another layout",
 ];
 
 /// A master made one that none writes.
-pub const MASTER_WAYS: [&str; 6] = [
+pub const MASTER_WAYS: [&str; 7] = [
     "bus over 1",
     "kind over 3",
     "no exchange but a node",
     "no exchange but sends",
     "node over 63",
     "sends out of range",
+    "another layout",
 ];
+
+/// A watch made one that none writes: any two times are sound.
+pub const WATCH_WAYS: [&str; 1] = ["another layout"];
 
 /// A sound station with some of the keys open, in any state and any slot.
 pub fn sound_station(format: Format, keys: &[Key], random: &mut Random) -> Station {
@@ -82,7 +87,7 @@ fn sound_state(format: Format, random: &mut Random) -> State {
 /// A sound master, often in an exchange.
 pub fn sound_master(random: &mut Random) -> Master {
     let mut master = Master::new();
-    let bits = random.next();
+    let bits = random.next_u64();
     for (i, bus) in master.chosen.iter_mut().enumerate() {
         *bus = (bits >> i & 1) as u8;
     }
@@ -147,8 +152,9 @@ pub fn unsound_station(format: Format, keys: &[Key], way: usize, random: &mut Ra
     station.slots[closed] = Slot::Closed;
     let mut bytes = station_bytes(&station).to_vec();
     match way {
-        9 => bytes[STATION_SIZE - 1] = random.within(2, 255) as u8,
-        10 => bytes[STATION_SIZE - 1] ^= 1,
+        9 => bytes[STATION_SIZE - 2] = random.within(2, 255) as u8,
+        10 => bytes[STATION_SIZE - 2] ^= 1,
+        11 => change_layout(&mut bytes, random),
         _ => {
             let place = if matches!(way, 0 | 1 | 8) {
                 closed
@@ -163,12 +169,19 @@ pub fn unsound_station(format: Format, keys: &[Key], way: usize, random: &mut Ra
     bytes
 }
 
+/// Gives the last byte another value, mostly one next to its own.
+fn change_layout(bytes: &mut [u8], random: &mut Random) {
+    let last = bytes.len() - 1;
+    let difference = random.within(1, 255) as u8;
+    bytes[last] ^= random.pick(&[1, 3, 255, difference]);
+}
+
 /// The two numbers of a record that is wrong in the way of that number; the key's is that of an open slot.
 fn wrong_record(format: Format, key: u32, way: usize, random: &mut Random) -> (u32, u32) {
     let size = format.piece_size();
     let any_held = random.within(1, 65_535) as u32;
     match way {
-        0 => (random.next() as u32 | 1, 0),
+        0 => (random.next_u64() as u32 | 1, 0),
         1 => (0, any_held),
         2 => (key, IDLE + any_held),
         3 => {
@@ -234,33 +247,47 @@ pub fn unsound_master(way: usize, random: &mut Random) -> Vec<u8> {
         master.exchange = None;
     }
     let mut bytes = master_bytes(&master).to_vec();
-    let [kind, node, sends] = [MASTER_SIZE - 3, MASTER_SIZE - 2, MASTER_SIZE - 1];
+    let [kind, node, sends] = [MASTER_SIZE - 4, MASTER_SIZE - 3, MASTER_SIZE - 2];
     match way {
         0 => bytes[random.below(64)] = random.within(2, 255) as u8,
         1 => bytes[kind] = random.within(4, 255) as u8,
         2 => bytes[node] = random.within(1, 255) as u8,
         3 => bytes[sends] = random.within(1, 255) as u8,
         4 => {
-            bytes[kind..].copy_from_slice(&[random.within(1, 3) as u8, 0, 1]);
+            bytes[kind..=sends].copy_from_slice(&[random.within(1, 3) as u8, 0, 1]);
             bytes[node] = random.within(64, 255) as u8;
         }
-        _ => {
+        5 => {
             let number = random.within(1, 3) as u8;
             let over = Kind::of_number(number).map_or(0, Kind::total_sends) + 1;
-            bytes[kind..].copy_from_slice(&[number, 0, 0]);
+            bytes[kind..=sends].copy_from_slice(&[number, 0, 0]);
             bytes[sends] = random.pick(&[0, over, 255]);
         }
+        _ => change_layout(&mut bytes, random),
     }
+    bytes
+}
+
+/// Any watch.
+pub fn sound_watch(random: &mut Random) -> Watch {
+    let times = random.next_u64();
+    Watch {
+        last: [times as u32, (times >> 32) as u32],
+    }
+}
+
+/// A watch that no calls hand back.
+pub fn unsound_watch(random: &mut Random) -> Vec<u8> {
+    let mut bytes = watch_bytes(&sound_watch(random)).to_vec();
+    change_layout(&mut bytes, random);
     bytes
 }
 
 #[cfg(test)]
 mod tests {
     use super::*;
-    use crate::image::different_keys;
-    use second::interface::{master_of, station_of};
-
-    const FORMATS: [Format; 2] = [Format::Extended, Format::Standard];
+    use second::interface::{master_of, station_of, watch_of, WATCH_SIZE};
+    use testkit::keys::{different_keys, FORMATS};
 
     fn is_sound_station(bytes: &[u8]) -> bool {
         station_of(bytes).is_some_and(|station| station.is_sound())
@@ -304,6 +331,11 @@ mod tests {
                 assert_eq!(bytes.len(), MASTER_SIZE);
                 assert!(!is_sound_master(&bytes), "{name}");
             }
+        }
+        for _ in 0..300 {
+            let bytes = unsound_watch(&mut random);
+            assert_eq!(bytes.len(), WATCH_SIZE);
+            assert!(watch_of(&bytes).is_none());
         }
     }
 

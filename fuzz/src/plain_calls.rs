@@ -1,11 +1,12 @@
-//! Calls on no lasting part: filters, rows and splitting.
+//! Calls on no lasting part: the version, filters, rows and splitting.
 
 use second::format::Format;
+use second::split::{piece, pieces_for};
+use testkit::keys::{any_fields, field_bytes, number};
+use testkit::{Random, FORMATS};
 
-use crate::call::Call;
-use crate::image::{any_fields, field_bytes, piece, piece_count};
-use crate::random::Random;
-use crate::station_calls::{bad_fields, number_of};
+use crate::call::{Bytes, Call};
+use crate::station_calls::bad_fields;
 
 /// Rows of Table A.1, as document 01 reads them.
 const ROWS: [[u8; 8]; 4] = [
@@ -15,31 +16,30 @@ const ROWS: [[u8; 8]; 4] = [
     [0x00, 0xC0, 0x20, 0x00, 0x07, 0xC0, 0x5F, 0xA0],
 ];
 
-/// A call of a filter or of a row.
+/// A call of a filter or of a row, and now and then of the version.
 pub fn filtering(random: &mut Random) -> Call {
-    if random.chance(500) {
-        let (code, mask) = (random.next() as u16, any_mask(random));
-        let id = near(code, mask, random);
-        return Call::FilterAccepts { code, mask, id };
+    if random.chance(10) {
+        return Call::version {};
     }
-    let mut row = match random.chance(400) {
-        true => random.pick(&ROWS).to_vec(),
-        false => random.bytes(8),
+    if random.chance(500) {
+        let (code, mask) = (random.next_u64() as u16, any_mask(random));
+        let id = near(code, mask, random);
+        return Call::filter_accepts { code, mask, id };
+    }
+    let row = match random.chance(400) {
+        true => random.pick(&ROWS),
+        false => random.next_u64().to_be_bytes(),
     };
     let at = random.pick(&[0, 4]);
     let code = u16::from_be_bytes([row[at], row[at + 2]]);
     let mask = u16::from_be_bytes([row[at + 1], row[at + 3]]);
     let id = near(code, mask, random);
-    if random.chance(60) {
-        let length = random.pick(&[0, 1, 4, 7, 9, 16, 264, 65_544]);
-        row.resize(length, 0);
-    }
-    Call::RowAccepts { row, id }
+    Call::row_accepts { row, id }
 }
 
 /// A mask with few bits, many, or half of them.
 fn any_mask(random: &mut Random) -> u16 {
-    let bits = random.next();
+    let bits = random.next_u64();
     let (one, two) = (bits as u16, (bits >> 16) as u16);
     match random.below(4) {
         0 => 0,
@@ -51,32 +51,30 @@ fn any_mask(random: &mut Random) -> u16 {
 
 /// Bits that the filter accepts, or that differ in one bit from some that it does, or any.
 fn near(code: u16, mask: u16, random: &mut Random) -> u16 {
-    let accepted = code ^ random.next() as u16 & mask;
+    let accepted = code ^ random.next_u64() as u16 & mask;
     match random.below(10) {
         0..=4 => accepted,
         5..=8 => accepted ^ 1 << random.below(16),
-        _ => random.next() as u16,
+        _ => random.next_u64() as u16,
     }
 }
 
-/// The format and the packet size that a sequence has by its number, so that every size comes up; the last are over the limit.
+/// The format and the packet size that a sequence has by its number, so that every size comes up; the last are over the
+/// limit.
 fn own_size(number: u64) -> (Format, usize) {
-    let format = match number % 2 {
-        0 => Format::Extended,
-        _ => Format::Standard,
-    };
+    let format = FORMATS[(number % 2) as usize];
     (format, (number / 2 % 2100) as usize)
 }
 
 /// The call for some piece of a packet of the sequence's own size, with nothing to refuse but that.
-pub fn own_piece(number: u64, random: &mut Random) -> Call {
-    let (format, size) = own_size(number);
-    Call::WritePiece {
-        format: number_of(format),
-        fields: field_bytes(&any_fields(format, random)),
-        packet: random.bytes(size),
-        k: random.below(piece_count(format, size)),
-        output: vec![random.byte(); 13],
+pub fn own_piece(sequence: u64, random: &mut Random) -> Call {
+    let (format, size) = own_size(sequence);
+    Call::write_piece {
+        format: number(format),
+        fields: Bytes::Own(field_bytes(&any_fields(format, random))),
+        packet: Bytes::Own(random.bytes(size)),
+        k: random.below(pieces_for(format, size)),
+        output: Bytes::Own(vec![random.byte(); 13]),
     }
 }
 
@@ -95,14 +93,14 @@ pub fn splitting(number: u64, random: &mut Random) -> Call {
 
 fn count(format: Format, size: usize, random: &mut Random) -> Call {
     let size = match random.below(20) {
-        0 => random.next() as usize,
+        0 => random.next_u64() as usize,
         1 => usize::MAX - size,
         2 => size + (1 << 32),
         3 => size + 65_536,
         _ => size,
     };
     let format = any_format(format, random);
-    Call::PieceCount { format, size }
+    Call::piece_count { format, size }
 }
 
 fn write(format: Format, size: usize, random: &mut Random) -> Call {
@@ -113,19 +111,19 @@ fn write(format: Format, size: usize, random: &mut Random) -> Call {
     let packet = random.bytes(size);
     let k = any_index(format, size, random);
     let output = any_output(format, &packet, k, random);
-    Call::WritePiece {
+    Call::write_piece {
         format: any_format(format, random),
-        fields,
-        packet,
+        fields: Bytes::Own(fields),
+        packet: Bytes::Own(packet),
         k,
-        output,
+        output: Bytes::Own(output),
     }
 }
 
 fn any_format(format: Format, random: &mut Random) -> u8 {
     match random.chance(15) {
         true => random.pick(&[2, 3, 128, 255]),
-        false => number_of(format),
+        false => number(format),
     }
 }
 
@@ -142,7 +140,7 @@ fn any_size(format: Format, random: &mut Random) -> usize {
 }
 
 fn any_index(format: Format, size: usize, random: &mut Random) -> usize {
-    let count = piece_count(format, size);
+    let count = pieces_for(format, size);
     match random.below(20) {
         0 => count,
         1 => random.pick(&[count + 1, 256, usize::MAX]),
@@ -156,7 +154,7 @@ fn any_index(format: Format, size: usize, random: &mut Random) -> usize {
 /// An output with room, or with just enough, or with one byte too few, or any.
 fn any_output(format: Format, packet: &[u8], k: usize, random: &mut Random) -> Vec<u8> {
     let fields = any_fields(format, random);
-    let needed = match k < piece_count(format, packet.len()) && packet.len() < 4_000 {
+    let needed = match k < pieces_for(format, packet.len()) && packet.len() < 4_000 {
         true => piece(&fields, packet, k).len(),
         false => 13,
     };
@@ -181,12 +179,12 @@ mod tests {
         let mut random = Random::new(1);
         let mut written = [0, 0];
         for number in 0..2 * 2100 {
-            let Call::WritePiece {
+            let Call::write_piece {
                 format,
-                fields,
-                packet,
+                fields: Bytes::Own(fields),
+                packet: Bytes::Own(packet),
                 k,
-                mut output,
+                output: Bytes::Own(mut output),
             } = own_piece(number, &mut random)
             else {
                 panic!("another call");
@@ -202,8 +200,11 @@ mod tests {
         let mut random = Random::new(2);
         let accepted = (0..1000)
             .filter(|_| match filtering(&mut random) {
-                Call::FilterAccepts { code, mask, id } => interface::filter_accepts(code, mask, id),
-                Call::RowAccepts { row, id } => interface::row_accepts(&row, id) == 1,
+                Call::filter_accepts { code, mask, id } => {
+                    interface::filter_accepts(code, mask, id)
+                }
+                Call::row_accepts { row, id } => interface::row_accepts(&row, id),
+                Call::version {} => false,
                 _ => panic!("another call"),
             })
             .count();

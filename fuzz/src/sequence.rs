@@ -2,12 +2,15 @@
 
 use std::collections::VecDeque;
 
+use second::interface::{MASTER_SIZE, WATCH_SIZE};
+use second::station::STORE_SIZE;
+use testkit::Random;
+
 use crate::bench::Parts;
 use crate::call::{Call, Part};
-use crate::master_calls::MasterCalls;
+use crate::master_calls::{self, MasterCalls};
 use crate::memory::Layout;
 use crate::plain_calls;
-use crate::random::Random;
 use crate::station_calls::StationCalls;
 use crate::tally::Note;
 use crate::watch_calls;
@@ -97,8 +100,15 @@ impl Sequence {
             false => random.pick(&WEIGHTS),
         };
         let mut steps = Steps::new();
-        let store = random.bytes(second::station::STORE_SIZE);
-        steps.push_back(Step::Set(Part::Store, store, None));
+        let mut set = |part, size| {
+            let bytes = random.bytes(size);
+            steps.push_back(Step::Set(part, bytes, None));
+        };
+        set(Part::Store, STORE_SIZE);
+        set(Part::Master, MASTER_SIZE);
+        set(Part::Watch, WATCH_SIZE);
+        steps.push_back(Step::Call(master_calls::new()));
+        steps.push_back(Step::Call(watch_calls::new(&mut random)));
         let piece = plain_calls::own_piece(number, &mut random);
         steps.push_back(Step::Call(piece));
         let station = StationCalls::new(left > 400, &mut random, &mut steps);
@@ -167,10 +177,11 @@ impl Sequence {
 #[cfg(test)]
 mod tests {
     use super::*;
+    use crate::library::FUNCTIONS;
 
     /// The steps of a sequence on parts that never change.
     fn steps(seed: u64, number: u64) -> Vec<Step> {
-        let parts = Parts::new();
+        let parts = Parts::default();
         let mut sequence = Sequence::new(seed, number);
         std::iter::from_fn(|| sequence.next(&parts)).collect()
     }
@@ -184,14 +195,14 @@ mod tests {
 
     #[test]
     fn every_function_is_called() {
-        let mut called = [false; 16];
+        let mut called = vec![false; FUNCTIONS.len()];
         for number in 0..50 {
             for step in steps(3, number) {
                 if let Step::Call(call) = step {
-                    called[call.function()] = true;
+                    called[call.function() as usize] = true;
                 }
             }
         }
-        assert_eq!(called, [true; 16]);
+        assert!(called.iter().all(|called| *called), "{called:?}");
     }
 }

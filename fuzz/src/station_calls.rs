@@ -5,14 +5,15 @@ use second::interface::{station_bytes, station_of, STATION_SIZE};
 use second::key::Key;
 use second::station::{Slot, Station, STORE_SIZE};
 use second::stream::State;
+use testkit::damage::LONGEST;
+use testkit::keys::{self, any_fields, different_keys, field_bytes, number, NO_BUSES};
+use testkit::traffic::{Noise, Sizes, Traffic};
+use testkit::{Random, FORMATS};
 
-use crate::call::{Call, Part, Store};
-use crate::image::{any_fields, different_keys, field_bytes, field_ranges};
+use crate::call::{Bytes, Call, Part, Place, STATION, STORE};
 use crate::mutate::{mutate, sound_station, unsound_station, STATION_WAYS};
-use crate::random::Random;
 use crate::sequence::{Step, Steps};
 use crate::tally::{List, Note};
-use crate::traffic::{Sizes, Traffic};
 
 /// What a sequence does with its station.
 pub struct StationCalls {
@@ -28,7 +29,7 @@ pub struct StationCalls {
 impl StationCalls {
     /// Begins with a new station and its first streams. A long sequence is one of long packets.
     pub fn new(long: bool, random: &mut Random, steps: &mut Steps) -> StationCalls {
-        let format = random.pick(&[Format::Extended, Format::Standard]);
+        let format = random.pick(&FORMATS);
         let (streams, sizes, noise) = match long {
             // Little breaks the longest packets.
             true => (
@@ -43,9 +44,10 @@ impl StationCalls {
             ),
         };
         let keys = different_keys(format, streams, random);
+        let own = Random::new(random.next_u64());
         let station = StationCalls {
             format,
-            traffic: Traffic::new(&keys, sizes, noise),
+            traffic: Traffic::new(&keys, sizes, Noise::even(noise), LONGEST, own),
             keys,
             sets: if long { 1 } else { random.pick(&[0, 20, 80]) },
             others: random.pick(&[20, 150, 300]),
@@ -58,8 +60,7 @@ impl StationCalls {
 
     /// A new station with most of the keys open: a stream now and then stays closed, so that its frames are filtered.
     fn push_new(&self, random: &mut Random, steps: &mut Steps) {
-        let format = number_of(self.format);
-        steps.push_back(Step::Call(Call::StationNew { format }));
+        steps.push_back(Step::Call(new(number(self.format))));
         for key in &self.keys {
             if random.chance(950) {
                 steps.push_back(Step::Call(open(key)));
@@ -80,7 +81,7 @@ impl StationCalls {
             true => self.other_call(station.as_ref(), random),
             false => {
                 if let Some(station) = &station {
-                    self.traffic.give_up_lost(station, random);
+                    self.traffic.give_up_lost(station);
                 }
                 self.receive(random)
             }
@@ -89,35 +90,32 @@ impl StationCalls {
     }
 
     fn receive(&mut self, random: &mut Random) -> Call {
-        let (bus, image) = self.traffic.next(random);
+        let arrival = self.traffic.next_frame();
         let bus = match random.chance(5) {
-            true => random.pick(&[2, 3, 128, 129, 255]),
-            false => bus,
+            true => random.pick(&NO_BUSES),
+            false => arrival.bus,
         };
-        Call::Receive {
+        Call::receive {
+            station: STATION,
             store: any_store(random),
             bus,
-            image,
+            image: Bytes::Own(arrival.image),
         }
     }
 
     fn other_call(&self, station: Option<&Station>, random: &mut Random) -> Call {
         match random.below(100) {
-            0..=44 => Call::Read {
-                store: any_store(random),
-                slot: match station.and_then(done_slot) {
-                    Some(slot) if random.chance(500) => slot,
-                    _ => any_slot(random),
-                },
-            },
+            0..=44 => {
+                let store = any_store(random);
+                match station.and_then(done_slot) {
+                    Some(slot) if random.chance(500) => read(store, slot),
+                    _ => read(store, any_slot(random)),
+                }
+            }
             45..=74 => open(&random.pick(&self.keys)),
             75..=82 => self.bad_open(random),
-            83..=97 => Call::Close {
-                slot: any_slot(random),
-            },
-            _ => Call::StationNew {
-                format: random.pick(&[2, 3, 128, 255]),
-            },
+            83..=97 => close(any_slot(random)),
+            _ => new(random.pick(&[2, 3, 128, 255])),
         }
     }
 
@@ -126,27 +124,25 @@ impl StationCalls {
         let key = random.pick(&self.keys);
         let (mut bus, mut fields) = (key.bus, field_bytes(&key.fields));
         match random.chance(300) {
-            true => bus = random.pick(&[2, 3, 128, 129, 255]),
+            true => bus = random.pick(&NO_BUSES),
             false => fields = bad_fields(self.format, random),
         }
-        Call::Open { bus, fields }
+        open_bytes(bus, fields)
     }
 
     /// Other bytes in the station's place for some calls: sound ones to go on with, or others.
     fn put_in_place(&mut self, station: &[u8], random: &mut Random, steps: &mut Steps) {
         if random.chance(250) {
             let sound = sound_station(self.format, &self.keys, random);
-            self.traffic.follow(&sound, random);
+            self.traffic.follow(&sound);
             let bytes = station_bytes(&sound).to_vec();
             steps.push_back(Step::Set(
                 Part::Station,
                 bytes,
                 Some(Note(List::SoundStation, 0)),
             ));
-            return steps.extend(done_slot(&sound).map(|slot| {
-                let store = Store::Own;
-                Step::Call(Call::Read { store, slot })
-            }));
+            let slot = done_slot(&sound);
+            return steps.extend(slot.map(|slot| Step::Call(read(STORE, slot))));
         }
         let (bytes, note) = match random.chance(400) {
             true => {
@@ -169,7 +165,7 @@ impl StationCalls {
         match sound {
             // A station that is still sound is gone on with half of the time.
             Some(station) if random.chance(500) && station.format == self.format => {
-                self.traffic.follow(&station, random)
+                self.traffic.follow(&station)
             }
             _ => steps.push_back(Step::Set(Part::Station, station.to_vec(), None)),
         }
@@ -179,16 +175,9 @@ impl StationCalls {
     fn any_call(&mut self, random: &mut Random) -> Call {
         match random.below(10) {
             0..=2 => self.receive(random),
-            3 | 4 => Call::StationNew {
-                format: random.pick(&[0, 1, 2]),
-            },
-            5 => Call::Read {
-                store: any_store(random),
-                slot: any_slot(random),
-            },
-            6 => Call::Close {
-                slot: any_slot(random),
-            },
+            3 | 4 => new(random.pick(&[0, 1, 2])),
+            5 => read(any_store(random), any_slot(random)),
+            6 => close(any_slot(random)),
             7 => self.bad_open(random),
             _ => open(&random.pick(&self.keys)),
         }
@@ -209,27 +198,47 @@ fn done_slot(station: &Station) -> Option<usize> {
     done.max().map(|(_, i)| i)
 }
 
-/// The number of a format in the header.
-pub fn number_of(format: Format) -> u8 {
-    match format {
-        Format::Extended => 0,
-        Format::Standard => 1,
+fn new(format: u8) -> Call {
+    Call::station_new {
+        station: STATION,
+        format,
     }
 }
 
 fn open(key: &Key) -> Call {
-    Call::Open {
-        bus: key.bus,
-        fields: field_bytes(&key.fields),
+    open_bytes(key.bus, field_bytes(&key.fields))
+}
+
+fn open_bytes(bus: u8, fields: Vec<u8>) -> Call {
+    Call::open {
+        station: STATION,
+        bus,
+        fields: Bytes::Own(fields),
+    }
+}
+
+fn close(slot: usize) -> Call {
+    Call::close {
+        station: STATION,
+        slot,
+    }
+}
+
+fn read(store: Bytes, slot: usize) -> Call {
+    Call::read {
+        station: STATION,
+        store,
+        slot,
+        start: Place,
     }
 }
 
 /// Mostly the station's own; else one of another length, among them such as 8 or 16 bits cannot tell from it.
-fn any_store(random: &mut Random) -> Store {
+fn any_store(random: &mut Random) -> Bytes {
     if !random.chance(8) {
-        return Store::Own;
+        return STORE;
     }
-    Store::Other(match random.below(10) {
+    let length = match random.below(10) {
         0 => 0,
         1 => 1,
         2 | 3 => STORE_SIZE - 1,
@@ -237,7 +246,8 @@ fn any_store(random: &mut Random) -> Store {
         6 => STORE_SIZE + 2048,
         7 => STORE_SIZE + 65_536,
         _ => random.below(STORE_SIZE),
-    })
+    };
+    Bytes::Own(vec![0xB7; length])
 }
 
 /// Mostly one of the sixteen; else one that is none, among them such as 8, 16 or 32 bits cannot tell from one.
@@ -253,23 +263,16 @@ fn any_slot(random: &mut Random) -> usize {
         96 => slot + (1 << 63),
         97 => usize::MAX,
         98 => usize::MAX - slot,
-        _ => random.next() as usize,
+        _ => random.next_u64() as usize,
     }
 }
 
 /// Fields of which one is out of range, or of which there are more or fewer.
 pub fn bad_fields(format: Format, random: &mut Random) -> Vec<u8> {
-    let mut bytes = field_bytes(&any_fields(format, random));
     if random.chance(600) {
-        let i = random.below(bytes.len());
-        let range = field_ranges(format)[i];
-        bytes[i] = match random.below(3) {
-            0 => range as u8,
-            1 => 255,
-            _ => random.within(range, 255) as u8,
-        };
-        return bytes;
+        return field_bytes(&keys::bad_fields(format, random));
     }
+    let mut bytes = field_bytes(&any_fields(format, random));
     let right = bytes.len();
     let length = match random.below(6) {
         0 => 0,
@@ -293,7 +296,7 @@ mod tests {
     #[test]
     fn bad_fields_are_refused() {
         let mut random = Random::new(6);
-        for format in [Format::Extended, Format::Standard] {
+        for format in FORMATS {
             for _ in 0..2000 {
                 let bytes = bad_fields(format, &mut random);
                 let fields = fields_of(format, &bytes);
@@ -307,8 +310,8 @@ mod tests {
         let mut random = Random::new(6);
         let mut others = 0;
         for _ in 0..100_000 {
-            if let Store::Other(length) = any_store(&mut random) {
-                assert_ne!(length, STORE_SIZE);
+            if let Bytes::Own(store) = any_store(&mut random) {
+                assert_ne!(store.len(), STORE_SIZE);
                 others += 1;
             }
         }

@@ -3,13 +3,15 @@
 use std::fmt::Write;
 
 use second::format::Format;
-use second::interface::{format_of, refused, MASTER_SIZE, STATION_SIZE};
+use second::interface::{format_of, refused, KEPT, MASTER_SIZE, PACKET, STATION_SIZE};
 use second::refusal::Refusal;
 use second::split::piece_count;
+use testkit::FORMATS;
 
 use crate::bench::Parts;
-use crate::call::{Call, FUNCTIONS};
-use crate::mutate::{MASTER_WAYS, STATION_WAYS, WAYS};
+use crate::call::{Bytes, Call};
+use crate::library::{functions, Function, FUNCTIONS};
+use crate::mutate::{MASTER_WAYS, STATION_WAYS, WATCH_WAYS, WAYS};
 
 /// The lists of what is put in a part's place.
 #[derive(Clone, Copy, Debug, PartialEq, Eq)]
@@ -20,15 +22,14 @@ pub enum List {
     SoundMaster,
     MutatedMaster,
     UnsoundMaster,
-    Watch,
+    SoundWatch,
+    MutatedWatch,
+    UnsoundWatch,
 }
 
 /// What was put in a part's place: an entry of a list.
 #[derive(Clone, Copy, Debug, PartialEq, Eq)]
 pub struct Note(pub List, pub usize);
-
-/// What is put in a watch's place.
-pub const WATCH_WAYS: [&str; 2] = ["random bytes", "another length"];
 
 /// The columns in which a case can come up, as bits.
 const EXTENDED: u8 = 1;
@@ -38,171 +39,185 @@ const BOTH: u8 = EXTENDED | STANDARD;
 const NONE: u8 = 4;
 const ALL: u8 = BOTH | NONE;
 
-/// The cases that can come up in a function.
+/// The cases that can come up in a function, each with its columns.
 struct Cases {
     answers: &'static [(&'static str, u8)],
-    refusals: &'static [(usize, u8)],
+    refusals: &'static [(Refusal, u8)],
 }
 
-const REFUSALS: [&str; 22] = [
-    "",
-    "LENGTH",
-    "FORM",
-    "REMOTE",
-    "COUNT",
-    "PIECE",
-    "ORPHAN",
-    "STEP",
-    "LONG",
-    "FIELD",
-    "SIZE",
-    "INDEX",
-    "ROOM",
-    "STORE",
-    "TAKEN",
-    "FULL",
-    "CLOSED",
-    "NOPACKET",
-    "BUSY",
-    "IDLE",
-    "NOTAWAITED",
-    "STATE",
-];
+fn cases(function: Function) -> Cases {
+    let (answers, refusals): (&[_], &[_]) = match function {
+        Function::version => (&[("release", NONE)], &[]),
+        Function::piece_count => (
+            &[
+                ("1 piece", BOTH),
+                ("2 to 255 pieces", BOTH),
+                ("256 pieces", BOTH),
+            ],
+            &[(Refusal::Field, NONE), (Refusal::Size, BOTH)],
+        ),
+        Function::write_piece => (
+            &[
+                ("single", BOTH),
+                ("start", BOTH),
+                ("middle", BOTH),
+                ("end", BOTH),
+            ],
+            &[
+                (Refusal::Field, ALL),
+                (Refusal::Size, BOTH),
+                (Refusal::Index, BOTH),
+                (Refusal::Room, BOTH),
+            ],
+        ),
+        Function::station_new | Function::open | Function::close => return slot_cases(function),
+        Function::receive | Function::read => return packet_cases(function),
+        Function::filter_accepts | Function::row_accepts => {
+            (&[("not accepted", NONE), ("accepted", NONE)], &[])
+        }
+        Function::master_new
+        | Function::master_start
+        | Function::master_reply
+        | Function::master_timeout => return master_cases(function),
+        Function::watch_new => (&[("new", NONE)], &[(Refusal::State, NONE)]),
+        Function::watch_heard => (
+            &[("A", NONE), ("B", NONE)],
+            &[(Refusal::Field, NONE), (Refusal::State, NONE)],
+        ),
+        Function::watch_check => (
+            &[("none", NONE), ("A", NONE), ("B", NONE), ("both", NONE)],
+            &[(Refusal::State, NONE)],
+        ),
+    };
+    Cases { answers, refusals }
+}
 
-/// In the order of `FUNCTIONS`.
-const CASES: [Cases; 16] = [
-    Cases {
-        answers: &[
-            ("1 piece", BOTH),
-            ("2 to 255 pieces", BOTH),
-            ("256 pieces", BOTH),
-        ],
-        refusals: &[(9, NONE), (10, BOTH)],
-    },
-    Cases {
-        answers: &[
-            ("single", BOTH),
-            ("start", BOTH),
-            ("middle", BOTH),
-            ("end", BOTH),
-        ],
-        refusals: &[(9, ALL), (10, BOTH), (11, BOTH), (12, BOTH)],
-    },
-    Cases {
-        answers: &[("new", BOTH)],
-        refusals: &[(9, NONE), (21, NONE)],
-    },
-    Cases {
-        answers: &[("slot 0", BOTH), ("slots 1 to 14", BOTH), ("slot 15", BOTH)],
-        refusals: &[(9, BOTH), (14, BOTH), (15, BOTH), (21, NONE)],
-    },
-    Cases {
-        answers: &[("closed", BOTH)],
-        refusals: &[(16, BOTH), (21, NONE)],
-    },
-    Cases {
-        answers: &[
-            ("packet", BOTH),
-            ("packet of 0 bytes", BOTH),
-            ("packet of the limit", BOTH),
-            ("packet, broke", BOTH),
-            ("kept", BOTH),
-            ("kept, broke", BOTH),
-            ("filtered", BOTH),
-        ],
-        refusals: &[
-            (1, BOTH),
-            (2, EXTENDED),
-            (3, BOTH),
-            (4, BOTH),
-            (5, BOTH),
-            (6, BOTH),
-            (7, BOTH),
-            (8, EXTENDED),
-            (9, BOTH),
-            (13, BOTH),
-            (21, NONE),
-        ],
-    },
-    Cases {
-        answers: &[
-            ("packet", BOTH),
-            ("packet of 0 bytes", BOTH),
-            ("packet of the limit", BOTH),
-        ],
-        refusals: &[(13, BOTH), (16, BOTH), (17, BOTH), (21, NONE)],
-    },
-    Cases {
-        answers: &[("not accepted", NONE), ("accepted", NONE)],
-        refusals: &[],
-    },
-    Cases {
-        answers: &[("not accepted", NONE), ("accepted", NONE)],
-        refusals: &[(9, NONE)],
-    },
-    Cases {
-        answers: &[("new", NONE)],
-        refusals: &[(21, NONE)],
-    },
-    Cases {
-        answers: &[
-            ("poll on A", NONE),
-            ("poll on B", NONE),
-            ("data block on A", NONE),
-            ("data block on B", NONE),
-            ("command on A", NONE),
-            ("command on B", NONE),
-        ],
-        refusals: &[(9, NONE), (18, NONE), (21, NONE)],
-    },
-    Cases {
-        answers: &[
-            ("poll done", NONE),
-            ("data block done", NONE),
-            ("command done", NONE),
-            ("command done, third send", NONE),
-        ],
-        refusals: &[(9, NONE), (19, NONE), (20, NONE), (21, NONE)],
-    },
-    Cases {
-        answers: &[
-            ("poll given up", NONE),
-            ("data block sent again", NONE),
-            ("data block given up", NONE),
-            ("command sent again", NONE),
-            ("command sent on the other bus", NONE),
-            ("command given up", NONE),
-        ],
-        refusals: &[(19, NONE), (21, NONE)],
-    },
-    Cases {
-        answers: &[("new", NONE)],
-        refusals: &[(21, NONE)],
-    },
-    Cases {
-        answers: &[("A", NONE), ("B", NONE)],
-        refusals: &[(9, NONE), (21, NONE)],
-    },
-    Cases {
-        answers: &[("none", NONE), ("A", NONE), ("B", NONE), ("both", NONE)],
-        refusals: &[(21, NONE)],
-    },
-];
+fn slot_cases(function: Function) -> Cases {
+    let (answers, refusals): (&[_], &[_]) = match function {
+        Function::station_new => (
+            &[("new", BOTH)],
+            &[(Refusal::Field, NONE), (Refusal::State, NONE)],
+        ),
+        Function::open => (
+            &[("slot 0", BOTH), ("slots 1 to 14", BOTH), ("slot 15", BOTH)],
+            &[
+                (Refusal::Field, BOTH),
+                (Refusal::Taken, BOTH),
+                (Refusal::Full, BOTH),
+                (Refusal::State, NONE),
+            ],
+        ),
+        _ => (
+            &[("closed", BOTH)],
+            &[(Refusal::Closed, BOTH), (Refusal::State, NONE)],
+        ),
+    };
+    Cases { answers, refusals }
+}
 
-/// Refusals have the places of their numbers; answers follow.
-const ANSWERS_AT: usize = REFUSALS.len();
+fn packet_cases(function: Function) -> Cases {
+    let (answers, refusals): (&[_], &[_]) = match function {
+        Function::receive => (
+            &[
+                ("packet", BOTH),
+                ("packet of 0 bytes", BOTH),
+                ("packet of the limit", BOTH),
+                ("packet, broke", BOTH),
+                ("kept", BOTH),
+                ("kept, broke", BOTH),
+                ("filtered", BOTH),
+            ],
+            &[
+                (Refusal::Length, BOTH),
+                (Refusal::Form, EXTENDED),
+                (Refusal::Remote, BOTH),
+                (Refusal::Count, BOTH),
+                (Refusal::Piece, BOTH),
+                (Refusal::Orphan, BOTH),
+                (Refusal::Step, BOTH),
+                (Refusal::Long, EXTENDED),
+                (Refusal::Field, BOTH),
+                (Refusal::Store, BOTH),
+                (Refusal::State, NONE),
+            ],
+        ),
+        _ => (
+            &[
+                ("packet", BOTH),
+                ("packet of 0 bytes", BOTH),
+                ("packet of the limit", BOTH),
+            ],
+            &[
+                (Refusal::Store, BOTH),
+                (Refusal::Closed, BOTH),
+                (Refusal::NoPacket, BOTH),
+                (Refusal::State, NONE),
+            ],
+        ),
+    };
+    Cases { answers, refusals }
+}
+
+fn master_cases(function: Function) -> Cases {
+    let (answers, refusals): (&[_], &[_]) = match function {
+        Function::master_new => (&[("new", NONE)], &[(Refusal::State, NONE)]),
+        Function::master_start => (
+            &[
+                ("poll on A", NONE),
+                ("poll on B", NONE),
+                ("data block on A", NONE),
+                ("data block on B", NONE),
+                ("command on A", NONE),
+                ("command on B", NONE),
+            ],
+            &[
+                (Refusal::Field, NONE),
+                (Refusal::Busy, NONE),
+                (Refusal::State, NONE),
+            ],
+        ),
+        Function::master_reply => (
+            &[
+                ("poll done", NONE),
+                ("data block done", NONE),
+                ("command done", NONE),
+                ("command done, third send", NONE),
+            ],
+            &[
+                (Refusal::Field, NONE),
+                (Refusal::Idle, NONE),
+                (Refusal::NotAwaited, NONE),
+                (Refusal::State, NONE),
+            ],
+        ),
+        _ => (
+            &[
+                ("poll given up", NONE),
+                ("data block sent again", NONE),
+                ("data block given up", NONE),
+                ("command sent again", NONE),
+                ("command sent on the other bus", NONE),
+                ("command given up", NONE),
+            ],
+            &[(Refusal::Idle, NONE), (Refusal::State, NONE)],
+        ),
+    };
+    Cases { answers, refusals }
+}
+
+/// Refusals have the places of `Refusal::ALL`; answers follow.
+const ANSWERS_AT: usize = Refusal::ALL.len();
 const PLACES: usize = ANSWERS_AT + 8;
 
 /// The columns by name.
 const COLUMNS: [&str; 3] = ["extended", "standard", "-"];
 
-/// The longest packets of each format.
-const SIZES: [usize; 2] = [2048, 1792];
-
 /// The counts of a run.
 pub struct Tally {
-    counts: [[[u64; 3]; PLACES]; 16],
-    notes: [[u64; 16]; 7],
+    /// By function, case and column.
+    counts: Vec<[[u64; 3]; PLACES]>,
+    /// By list and entry.
+    notes: Vec<Vec<u64>>,
     /// Whether a piece was written of a packet of that size.
     sizes: [Vec<bool>; 2],
     pub calls: u64,
@@ -212,9 +227,12 @@ pub struct Tally {
 impl Tally {
     pub fn new() -> Tally {
         Tally {
-            counts: [[[0; 3]; PLACES]; 16],
-            notes: [[0; 16]; 7],
-            sizes: SIZES.map(|size| vec![false; size + 1]),
+            counts: vec![[[0; 3]; PLACES]; FUNCTIONS.len()],
+            notes: lists()
+                .iter()
+                .map(|(_, ways)| vec![0; ways.len()])
+                .collect(),
+            sizes: FORMATS.map(|format| vec![false; format.packet_limit() + 1]),
             calls: 0,
             sequences: 0,
         }
@@ -224,12 +242,15 @@ impl Tally {
     pub fn count(&mut self, call: &Call, before: &Before, answer: u32) {
         self.calls += 1;
         let column = column(call, before, answer);
-        let place = match answer >= 0x8000_0000 {
-            true => (answer & 0xFFFF) as usize,
-            false => ANSWERS_AT + kind_of(call, before, answer),
-        };
-        self.counts[call.function()][place][column] += 1;
-        if let Call::WritePiece { packet, .. } = call {
+        let mut refusals = Refusal::ALL.iter();
+        let refusal = refusals.position(|&refusal| refused(refusal) == answer);
+        let place = refusal.unwrap_or_else(|| ANSWERS_AT + kind_of(call, before, answer));
+        self.counts[call.function() as usize][place][column] += 1;
+        if let Call::write_piece {
+            packet: Bytes::Own(packet),
+            ..
+        } = call
+        {
             if place >= ANSWERS_AT {
                 self.sizes[column][packet.len()] = true;
             }
@@ -248,10 +269,10 @@ impl Tally {
         for (function, place, column) in every_place() {
             let name = name_of(function, place);
             let (count, can) = (
-                self.counts[function][place][column],
+                self.counts[function as usize][place][column],
                 can_be(function, place, column),
             );
-            let case = format!("{} {name} {}", FUNCTIONS[function], COLUMNS[column]);
+            let case = format!("{} {name} {}", function_name(function), COLUMNS[column]);
             match (can, count) {
                 (true, 0) => faults.push(format!("never came up: {case}")),
                 (false, 1..) => faults.push(format!("came up but cannot: {case}")),
@@ -282,7 +303,7 @@ impl Tally {
         );
         for (function, place, _) in every_place().filter(|&(_, _, column)| column == 0) {
             let columns = [0, 1, 2].map(|column| {
-                let count = self.counts[function][place][column];
+                let count = self.counts[function as usize][place][column];
                 match can_be(function, place, column) || count > 0 {
                     true => count.to_string(),
                     false => String::new(),
@@ -290,7 +311,7 @@ impl Tally {
             });
             if columns.iter().any(|column| !column.is_empty()) {
                 let [extended, standard, none] = columns;
-                let (function, name) = (FUNCTIONS[function], name_of(function, place));
+                let (function, name) = (function_name(function), name_of(function, place));
                 let line =
                     format!("{function:<16}{name:<31}{extended:>12}{standard:>12}{none:>12}");
                 writeln!(text, "{}", line.trim_end()).expect("text can be written");
@@ -322,11 +343,11 @@ pub struct Before {
 impl Before {
     pub fn of(parts: &Parts) -> Before {
         let format = match parts.station.len() {
-            STATION_SIZE => format_of(parts.station[STATION_SIZE - 1]),
+            STATION_SIZE => format_of(parts.station[STATION_SIZE - 2]),
             _ => None,
         };
         let exchange = match parts.master.len() {
-            MASTER_SIZE => (parts.master[MASTER_SIZE - 3], parts.master[MASTER_SIZE - 1]),
+            MASTER_SIZE => (parts.master[MASTER_SIZE - 4], parts.master[MASTER_SIZE - 2]),
             _ => (0, 0),
         };
         Before {
@@ -341,10 +362,10 @@ fn column(call: &Call, before: &Before, answer: u32) -> usize {
     let format = match call {
         // What is no station has no format.
         _ if answer == refused(Refusal::State) => None,
-        Call::PieceCount { format, .. }
-        | Call::WritePiece { format, .. }
-        | Call::StationNew { format } => format_of(*format),
-        Call::Open { .. } | Call::Close { .. } | Call::Receive { .. } | Call::Read { .. } => {
+        Call::piece_count { format, .. }
+        | Call::write_piece { format, .. }
+        | Call::station_new { format, .. } => format_of(*format),
+        Call::open { .. } | Call::close { .. } | Call::receive { .. } | Call::read { .. } => {
             before.station_format
         }
         _ => None,
@@ -360,36 +381,38 @@ fn column(call: &Call, before: &Before, answer: u32) -> usize {
 fn kind_of(call: &Call, before: &Before, answer: u32) -> usize {
     let number = (answer & 0xFFFF) as usize;
     match call {
-        Call::PieceCount { .. } => match number {
+        Call::piece_count { .. } => match number {
             1 => 0,
             256 => 2,
             _ => 1,
         },
-        Call::WritePiece {
-            format, packet, k, ..
+        Call::write_piece {
+            format,
+            packet: Bytes::Own(packet),
+            k,
+            ..
         } => place_of_piece(*format, packet.len(), *k),
-        Call::Open { .. } => match number {
+        Call::open { .. } => match number {
             0 => 0,
             15 => 2,
             _ => 1,
         },
-        Call::Receive { .. } => received(before, answer),
-        Call::Read { .. } => packet_of(before, number),
-        Call::MasterStart { kind, .. } => 2 * usize::from(*kind - 1) + number,
-        Call::MasterReply { .. } => match before.exchange {
+        Call::receive { .. } => received(before, answer),
+        Call::read { .. } => packet_of(before, number),
+        Call::master_start { kind, .. } => 2 * usize::from(*kind - 1) + number,
+        Call::master_reply { .. } => match before.exchange {
             (3, 3) => 3,
             (kind, _) => usize::from(kind - 1),
         },
-        Call::MasterTimeout => match before.exchange {
+        Call::master_timeout { .. } => match before.exchange {
             (1, _) => 0,
             (2, sends) => usize::from(sends),
             (_, sends) => usize::from(sends) + 2,
         },
-        Call::StationNew { .. } | Call::Close { .. } | Call::MasterNew | Call::WatchNew { .. } => 0,
-        Call::FilterAccepts { .. }
-        | Call::RowAccepts { .. }
-        | Call::WatchHeard { .. }
-        | Call::WatchCheck { .. } => number,
+        Call::filter_accepts { .. } | Call::row_accepts { .. } | Call::watch_heard { .. } => number,
+        Call::watch_check { .. } => (answer >> 25) as usize,
+        // One answer only.
+        _ => 0,
     }
 }
 
@@ -406,9 +429,9 @@ fn place_of_piece(format: u8, size: usize, k: usize) -> usize {
 fn received(before: &Before, answer: u32) -> usize {
     let broke = answer >> 24 & 1 == 1;
     match answer >> 16 & 0xFF {
-        1 if broke => 3,
-        1 => packet_of(before, (answer & 0xFFFF) as usize),
-        2 => 4 + usize::from(broke),
+        PACKET if broke => 3,
+        PACKET => packet_of(before, (answer & 0xFFFF) as usize),
+        KEPT => 4 + usize::from(broke),
         _ => 6,
     }
 }
@@ -421,41 +444,50 @@ fn packet_of(before: &Before, length: usize) -> usize {
     }
 }
 
-fn every_place() -> impl Iterator<Item = (usize, usize, usize)> {
+fn every_place() -> impl Iterator<Item = (Function, usize, usize)> {
     // Answers first, then refusals, as the table has them.
-    let places = (ANSWERS_AT..PLACES).chain(1..ANSWERS_AT);
-    (0..FUNCTIONS.len()).flat_map(move |function| {
+    let places = (ANSWERS_AT..PLACES).chain(0..ANSWERS_AT);
+    functions().into_iter().flat_map(move |function| {
         let places = places.clone();
         places.flat_map(move |place| (0..3).map(move |column| (function, place, column)))
     })
 }
 
-fn can_be(function: usize, place: usize, column: usize) -> bool {
-    let cases = &CASES[function];
+fn function_name(function: Function) -> &'static str {
+    FUNCTIONS[function as usize]
+}
+
+fn can_be(function: Function, place: usize, column: usize) -> bool {
+    let cases = cases(function);
     let columns = match place.checked_sub(ANSWERS_AT) {
         Some(answer) => cases.answers.get(answer).map(|&(_, columns)| columns),
         None => {
-            let refusal = cases.refusals.iter().find(|&&(number, _)| number == place);
+            let mut refusals = cases.refusals.iter();
+            let refusal = refusals.find(|(refusal, _)| *refusal == Refusal::ALL[place]);
             refusal.map(|&(_, columns)| columns)
         }
     };
     columns.unwrap_or(0) >> column & 1 == 1
 }
 
-fn name_of(function: usize, place: usize) -> String {
+fn name_of(function: Function, place: usize) -> String {
     match place.checked_sub(ANSWERS_AT) {
         Some(answer) => {
-            let answer = CASES[function].answers.get(answer);
+            let cases = cases(function);
+            let answer = cases.answers.get(answer);
             answer
                 .map_or("an answer that is none", |&(name, _)| name)
                 .into()
         }
-        None => format!("{place} {}", REFUSALS[place]),
+        None => {
+            let refusal = Refusal::ALL[place];
+            format!("{} {}", refusal.number(), refusal.name())
+        }
     }
 }
 
 /// The entries of each list, in the order of `List`, with their titles.
-fn lists() -> [(&'static str, &'static [&'static str]); 7] {
+fn lists() -> [(&'static str, &'static [&'static str]); 9] {
     [
         ("station set", &["sound"]),
         ("station set", &WAYS),
@@ -463,6 +495,8 @@ fn lists() -> [(&'static str, &'static [&'static str]); 7] {
         ("master set", &["sound"]),
         ("master set", &WAYS),
         ("master set", &MASTER_WAYS),
+        ("watch set", &["sound"]),
+        ("watch set", &WAYS),
         ("watch set", &WATCH_WAYS),
     ]
 }
@@ -470,6 +504,16 @@ fn lists() -> [(&'static str, &'static [&'static str]); 7] {
 #[cfg(test)]
 mod tests {
     use super::*;
+    use crate::call::{MASTER, STATION, STORE};
+    use second::interface::station_bytes;
+    use second::station::Station;
+
+    fn parts(format: Format) -> Parts {
+        Parts {
+            station: station_bytes(&Station::new(format)).to_vec(),
+            ..Parts::default()
+        }
+    }
 
     #[test]
     fn an_empty_tally_lacks_every_case() {
@@ -484,8 +528,12 @@ mod tests {
     #[test]
     fn a_case_that_came_up_is_no_fault() {
         let mut tally = Tally::new();
-        let before = Before::of(&Parts::new());
-        tally.count(&Call::Close { slot: 0 }, &before, 0x8000_0010);
+        let before = Before::of(&parts(Format::Extended));
+        let call = Call::close {
+            station: STATION,
+            slot: 0,
+        };
+        tally.count(&call, &before, refused(Refusal::Closed));
         let lacks = |tally: &Tally, case: &str| tally.faults().iter().any(|f| f.ends_with(case));
         assert!(!lacks(&tally, "close 16 CLOSED extended"));
         assert!(lacks(&tally, "close 16 CLOSED standard"));
@@ -496,14 +544,14 @@ mod tests {
     #[test]
     fn a_case_that_cannot_be_is_a_fault() {
         let mut tally = Tally::new();
-        let mut parts = Parts::new();
-        parts.station[128] = 1;
-        let call = Call::Receive {
-            store: crate::call::Store::Own,
+        let call = Call::receive {
+            station: STATION,
+            store: STORE,
             bus: 0,
-            image: vec![],
+            image: Bytes::Own(vec![]),
         };
-        tally.count(&call, &Before::of(&parts), 0x8000_0008);
+        let before = Before::of(&parts(Format::Standard));
+        tally.count(&call, &before, refused(Refusal::Long));
         let fault = "came up but cannot: receive 8 LONG standard";
         assert!(tally.faults().contains(&fault.into()));
     }
@@ -514,7 +562,8 @@ mod tests {
             station_format: None,
             exchange: (kind, sends),
         };
-        let place = |kind, sends| kind_of(&Call::MasterTimeout, &before(kind, sends), 0x0001_0000);
+        let call = Call::master_timeout { master: MASTER };
+        let place = |kind, sends| kind_of(&call, &before(kind, sends), 0x0007_0000);
         let places = [(1, 1), (2, 1), (2, 2), (3, 1), (3, 2), (3, 3)];
         assert_eq!(
             places.map(|(kind, sends)| place(kind, sends)),

@@ -9,13 +9,16 @@ const REFUSED: u32 = 0x8000_0000;
 /// Set where an older packet was dropped.
 const BROKE: u32 = 1 << 24;
 
-const PACKET: u32 = 1;
-const KEPT: u32 = 2;
-const FILTERED: u32 = 3;
+/// Set by a check of a watch for bus A and for bus B, if it is to be reset.
+const RESET: [u32; 2] = [1 << 25, 1 << 26];
 
-const SEND: u32 = 1;
-const DONE: u32 = 2;
-const GAVE_UP: u32 = 3;
+/// The kinds of answers, which all differ.
+pub const PACKET: u32 = 4;
+pub const KEPT: u32 = 5;
+pub const FILTERED: u32 = 6;
+pub const SEND: u32 = 7;
+pub const DONE: u32 = 8;
+pub const GAVE_UP: u32 = 9;
 
 /// The answer of a refusal.
 pub fn refused(refusal: Refusal) -> u32 {
@@ -53,6 +56,11 @@ pub fn exchange_answer(answer: Result<master::Answer, Refusal>) -> u32 {
     }
 }
 
+pub fn reset_answer(reset: [bool; 2]) -> u32 {
+    let bits = RESET.iter().zip(reset);
+    bits.map(|(bit, reset)| if reset { *bit } else { 0 }).sum()
+}
+
 #[cfg(test)]
 mod tests {
     use super::*;
@@ -68,20 +76,20 @@ mod tests {
     #[test]
     fn received_frames_have_kind_number_and_broke() {
         let packet = |length, broke| receive_answer(Answer::Packet { length, broke });
-        assert_eq!(packet(2048, false), 0x0001_0800);
-        assert_eq!(packet(0, true), 0x0101_0000);
-        assert_eq!(receive_answer(Answer::Kept { broke: false }), 0x0002_0000);
-        assert_eq!(receive_answer(Answer::Kept { broke: true }), 0x0102_0000);
-        assert_eq!(receive_answer(Answer::Filtered), 0x0003_0000);
+        assert_eq!(packet(2048, false), 0x0004_0800);
+        assert_eq!(packet(0, true), 0x0104_0000);
+        assert_eq!(receive_answer(Answer::Kept { broke: false }), 0x0005_0000);
+        assert_eq!(receive_answer(Answer::Kept { broke: true }), 0x0105_0000);
+        assert_eq!(receive_answer(Answer::Filtered), 0x0006_0000);
         assert_eq!(receive_answer(Answer::Refused(Refusal::Step)), 0x8000_0007);
     }
 
     #[test]
     fn exchanges_have_kind_and_bus() {
-        assert_eq!(exchange_answer(Ok(master::Answer::Send(0))), 0x0001_0000);
-        assert_eq!(exchange_answer(Ok(master::Answer::Send(1))), 0x0001_0001);
-        assert_eq!(exchange_answer(Ok(master::Answer::Done)), 0x0002_0000);
-        assert_eq!(exchange_answer(Ok(master::Answer::GaveUp)), 0x0003_0000);
+        assert_eq!(exchange_answer(Ok(master::Answer::Send(0))), 0x0007_0000);
+        assert_eq!(exchange_answer(Ok(master::Answer::Send(1))), 0x0007_0001);
+        assert_eq!(exchange_answer(Ok(master::Answer::Done)), 0x0008_0000);
+        assert_eq!(exchange_answer(Ok(master::Answer::GaveUp)), 0x0009_0000);
         assert_eq!(exchange_answer(Err(Refusal::Idle)), 0x8000_0013);
     }
 }

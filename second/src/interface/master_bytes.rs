@@ -1,10 +1,13 @@
 //! A master as bytes: the chosen buses, then kind, node and send count of the
-//! exchange, all 0 if there is none.
+//! exchange, all 0 if there is none, and last the number of this layout.
 
 use crate::master::{Exchange, Kind, Master, NODE_COUNT};
 
 /// The bytes of a master.
-pub const MASTER_SIZE: usize = NODE_COUNT + 3;
+pub const MASTER_SIZE: usize = NODE_COUNT + 4;
+
+/// The number of their layout.
+pub const MASTER_LAYOUT: u8 = 1;
 
 /// The bytes of a master.
 pub fn master_bytes(master: &Master) -> [u8; MASTER_SIZE] {
@@ -12,8 +15,9 @@ pub fn master_bytes(master: &Master) -> [u8; MASTER_SIZE] {
     bytes[..NODE_COUNT].copy_from_slice(&master.chosen);
     if let Some(exchange) = master.exchange {
         let tail = [exchange.kind as u8, exchange.node, exchange.sends];
-        bytes[NODE_COUNT..].copy_from_slice(&tail);
+        bytes[NODE_COUNT..MASTER_SIZE - 1].copy_from_slice(&tail);
     }
+    bytes[MASTER_SIZE - 1] = MASTER_LAYOUT;
     bytes
 }
 
@@ -24,8 +28,8 @@ pub fn master_of(bytes: &[u8]) -> Option<Master> {
     }
     let (buses, tail) = bytes.split_at(NODE_COUNT);
     let exchange = match *tail {
-        [0, 0, 0] => None,
-        [kind, node, sends] => Some(Exchange {
+        [0, 0, 0, MASTER_LAYOUT] => None,
+        [kind, node, sends, MASTER_LAYOUT] => Some(Exchange {
             kind: Kind::of_number(kind)?,
             node,
             sends,
@@ -45,14 +49,14 @@ mod tests {
         let mut master = Master::new();
         master.chosen[22] = 1;
         assert_eq!(master_bytes(&master)[22], 1);
-        assert_eq!(master_bytes(&master)[64..], [0, 0, 0]);
+        assert_eq!(master_bytes(&master)[64..], [0, 0, 0, 1]);
         assert_eq!(master_of(&master_bytes(&master)), Some(master));
         master.exchange = Some(Exchange {
             kind: Kind::Command,
             node: 22,
             sends: 2,
         });
-        assert_eq!(master_bytes(&master)[64..], [3, 22, 2]);
+        assert_eq!(master_bytes(&master)[64..], [3, 22, 2, 1]);
         assert_eq!(master_of(&master_bytes(&master)), Some(master));
     }
 
@@ -60,9 +64,9 @@ mod tests {
     fn bytes_that_no_master_has() {
         let sound = master_bytes(&Master::new());
         assert!(master_of(&sound).is_some());
-        assert!(master_of(&sound[..66]).is_none());
+        assert!(master_of(&sound[..67]).is_none());
         assert!(master_of(&[&sound[..], &[0]].concat()).is_none());
-        for (at, byte) in [(64, 4), (64, 255), (65, 1), (66, 1)] {
+        for (at, byte) in [(64, 4), (64, 255), (65, 1), (66, 1), (67, 0), (67, 2)] {
             let mut bytes = sound;
             bytes[at] = byte;
             assert!(master_of(&bytes).is_none(), "{at} {byte}");

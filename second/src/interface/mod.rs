@@ -2,15 +2,17 @@
 //!
 //! Written from the library's header and document 01, so that the library can
 //! be compared with it call by call. Where C has a pointer and a length there
-//! is a slice here; `start` of `read` is handed back instead of written.
+//! is a slice here.
 
 mod answer;
 mod master_bytes;
 mod station_bytes;
+mod watch_bytes;
 
-pub use answer::refused;
-pub use master_bytes::{master_bytes, master_of, MASTER_SIZE};
-pub use station_bytes::{station_bytes, station_of, STATION_SIZE};
+pub use answer::{refused, DONE, FILTERED, GAVE_UP, KEPT, PACKET, SEND};
+pub use master_bytes::{master_bytes, master_of, MASTER_LAYOUT, MASTER_SIZE};
+pub use station_bytes::{station_bytes, station_of, STATION_LAYOUT, STATION_SIZE};
+pub use watch_bytes::{watch_bytes, watch_of, WATCH_LAYOUT, WATCH_SIZE};
 
 use crate::filter::{Filter, Pair};
 use crate::format::Format;
@@ -21,10 +23,15 @@ use crate::split;
 use crate::station::Station;
 use crate::stream::{Answer, AREA_SIZE};
 use crate::watch::Watch;
-use answer::{exchange_answer, number_or_refusal, receive_answer};
+use answer::{exchange_answer, number_or_refusal, receive_answer, reset_answer};
 
-/// The bytes of a watch.
-pub const WATCH_SIZE: usize = 8;
+/// The release: major, minor and patch.
+const RELEASE: [u8; 3] = [0, 2, 0];
+
+pub fn version() -> u32 {
+    let [major, minor, patch] = RELEASE.map(u32::from);
+    65_536 * major + 256 * minor + patch
+}
 
 /// The format of a number.
 pub fn format_of(number: u8) -> Option<Format> {
@@ -120,24 +127,22 @@ pub fn receive(station: &mut [u8], store: &mut [u8], bus: u8, image: &[u8]) -> u
     receive_answer(answer)
 }
 
-/// The answer, and the packet's place in the store where there is one.
-pub fn read(station: &[u8], store: &[u8], slot: usize) -> (u32, Option<usize>) {
+pub fn read(station: &[u8], store: &[u8], slot: usize, start: &mut usize) -> u32 {
     let length = station_of(station)
         .ok_or(Refusal::State)
         .and_then(|station| station.read_length(slot, store));
-    let start = length.is_ok().then(|| slot * AREA_SIZE);
-    (number_or_refusal(length), start)
+    if length.is_ok() {
+        *start = slot * AREA_SIZE;
+    }
+    number_or_refusal(length)
 }
 
 pub fn filter_accepts(code: u16, mask: u16, id: u16) -> bool {
     Filter { code, mask }.accepts(id)
 }
 
-pub fn row_accepts(row: &[u8], id: u16) -> u32 {
-    match row.try_into() {
-        Ok(row) => u32::from(Pair::of_row(row).accepts(id)),
-        Err(_) => refused(Refusal::Field),
-    }
+pub fn row_accepts(row: &[u8; 8], id: u16) -> bool {
+    Pair::of_row(*row).accepts(id)
 }
 
 pub fn master_new(master: &mut [u8]) -> u32 {
@@ -176,25 +181,11 @@ pub fn master_timeout(master: &mut [u8]) -> u32 {
     on_master(master, Master::timeout)
 }
 
-/// The watch of bytes: every eight bytes are one.
-fn watch_of(bytes: &[u8]) -> Option<Watch> {
-    let bytes: [u8; WATCH_SIZE] = bytes.try_into().ok()?;
-    let [a0, a1, a2, a3, b0, b1, b2, b3] = bytes;
-    let last = [[a0, a1, a2, a3], [b0, b1, b2, b3]].map(u32::from_le_bytes);
-    Some(Watch { last })
-}
-
-fn write_watch(watch: &Watch, bytes: &mut [u8]) {
-    for (bytes, last) in bytes.chunks_exact_mut(4).zip(watch.last) {
-        bytes.copy_from_slice(&last.to_le_bytes());
-    }
-}
-
 pub fn watch_new(watch: &mut [u8], now: u32) -> u32 {
     if watch.len() != WATCH_SIZE {
         return refused(Refusal::State);
     }
-    write_watch(&Watch::new(now), watch);
+    watch.copy_from_slice(&watch_bytes(&Watch::new(now)));
     0
 }
 
@@ -203,7 +194,7 @@ pub fn watch_heard(watch: &mut [u8], bus: u8, now: u32) -> u32 {
         return refused(Refusal::State);
     };
     let (next, answer) = old.heard(bus, now);
-    write_watch(&next, watch);
+    watch.copy_from_slice(&watch_bytes(&next));
     number_or_refusal(answer.map(usize::from))
 }
 
@@ -211,9 +202,9 @@ pub fn watch_check(watch: &mut [u8], now: u32) -> u32 {
     let Some(old) = watch_of(watch) else {
         return refused(Refusal::State);
     };
-    let (next, [a, b]) = old.check(now);
-    write_watch(&next, watch);
-    u32::from(a) + 2 * u32::from(b)
+    let (next, reset) = old.check(now);
+    watch.copy_from_slice(&watch_bytes(&next));
+    reset_answer(reset)
 }
 
 #[cfg(test)]

@@ -1,4 +1,5 @@
-//! A station as bytes: sixteen records of two numbers, then the format.
+//! A station as bytes: sixteen records of two numbers, then the format and the
+//! number of this layout.
 
 use crate::format::Format;
 use crate::key::{Fields, Key};
@@ -10,8 +11,14 @@ use super::format_of;
 /// The bytes of a record.
 const RECORD_SIZE: usize = 8;
 
+/// The place of the format, behind the records.
+const FORMAT_AT: usize = SLOT_COUNT * RECORD_SIZE;
+
 /// The bytes of a station.
-pub const STATION_SIZE: usize = SLOT_COUNT * RECORD_SIZE + 1;
+pub const STATION_SIZE: usize = FORMAT_AT + 2;
+
+/// The number of their layout.
+pub const STATION_LAYOUT: u8 = 1;
 
 /// Set in the key's number of every standard key.
 const STANDARD_MARK: u32 = 16_384;
@@ -29,19 +36,20 @@ pub fn station_bytes(station: &Station) -> [u8; STATION_SIZE] {
         record[..4].copy_from_slice(&key.to_le_bytes());
         record[4..].copy_from_slice(&state.to_le_bytes());
     }
-    bytes[STATION_SIZE - 1] = match station.format {
+    let format = match station.format {
         Format::Extended => 0,
         Format::Standard => 1,
     };
+    bytes[FORMAT_AT..].copy_from_slice(&[format, STATION_LAYOUT]);
     bytes
 }
 
 /// The station of bytes; none where no station has them. It may be unsound.
 pub fn station_of(bytes: &[u8]) -> Option<Station> {
-    if bytes.len() != STATION_SIZE {
+    if bytes.len() != STATION_SIZE || bytes[STATION_SIZE - 1] != STATION_LAYOUT {
         return None;
     }
-    let format = format_of(bytes[STATION_SIZE - 1])?;
+    let format = format_of(bytes[FORMAT_AT])?;
     let mut station = Station::new(format);
     for (slot, record) in station
         .slots
@@ -197,7 +205,7 @@ mod tests {
     }
 
     #[test]
-    fn records_lie_low_byte_first_and_the_format_last() {
+    fn records_lie_low_byte_first_then_format_and_layout() {
         let mut station = Station::new(Format::Standard);
         station.slots[2] = Slot::Open {
             key: standard(1, [2, 22, 1]),
@@ -205,9 +213,9 @@ mod tests {
         };
         let bytes = station_bytes(&station);
         assert_eq!(bytes[16..24], [0x82, 0x56, 1, 0, 0x23, 0x01, 3, 0]);
-        assert_eq!(bytes[128], 1);
-        let rest = |i: &usize| !(16..24).contains(i) && *i != 128;
-        assert!((0..129).filter(rest).all(|i| bytes[i] == 0));
+        assert_eq!(bytes[128..], [1, 1]);
+        let rest = |i: &usize| !(16..24).contains(i);
+        assert!((0..128).filter(rest).all(|i| bytes[i] == 0));
         assert_eq!(station_of(&bytes), Some(station));
     }
 
@@ -247,14 +255,17 @@ mod tests {
     }
 
     #[test]
-    fn only_129_bytes_with_a_format_are_a_station() {
+    fn only_130_bytes_with_a_format_and_this_layout_are_a_station() {
         let mut bytes = station_bytes(&Station::new(Format::Extended)).to_vec();
         assert!(station_of(&bytes).is_some());
-        assert!(station_of(&bytes[..128]).is_none());
-        bytes[128] = 2;
-        assert!(station_of(&bytes).is_none());
-        bytes[128] = 1;
-        bytes.push(0);
+        assert!(station_of(&bytes[..129]).is_none());
+        for (format, layout) in [(2, 1), (0, 0), (1, 0), (0, 2), (0, 255)] {
+            bytes[128..].copy_from_slice(&[format, layout]);
+            assert!(station_of(&bytes).is_none());
+        }
+        bytes[128..].copy_from_slice(&[1, 1]);
+        assert!(station_of(&bytes).is_some());
+        bytes.push(1);
         assert!(station_of(&bytes).is_none());
         assert!(station_of(&[]).is_none());
     }

@@ -17,16 +17,17 @@ fn new_station(format: u8) -> Vec<u8> {
 }
 
 #[test]
-fn a_new_station_is_all_0_but_for_its_format() {
-    assert_eq!(new_station(0), [0; 129]);
-    assert_eq!(new_station(1)[..128], [0; 128]);
-    assert_eq!(new_station(1)[128], 1);
-    let mut short = [7; 128];
+fn a_new_station_is_all_0_but_for_format_and_layout() {
+    for format in [0, 1] {
+        assert_eq!(new_station(format)[..128], [0; 128]);
+        assert_eq!(new_station(format)[128..], [format, 1]);
+    }
+    let mut short = [7; 129];
     assert_eq!(station_new(&mut short, 9), STATE);
-    assert_eq!(short, [7; 128]);
-    let mut bytes = [7; 129];
+    assert_eq!(short, [7; 129]);
+    let mut bytes = [7; 130];
     assert_eq!(station_new(&mut bytes, 2), FIELD);
-    assert_eq!(bytes, [7; 129]);
+    assert_eq!(bytes, [7; 130]);
 }
 
 #[test]
@@ -38,15 +39,18 @@ fn opening_closing_receiving_reading() {
     assert_eq!(station[..8], [0x88, 6, 0, 0, 0, 0, 1, 0]);
     assert_eq!(station[8..16], [0x09, 5, 0, 0, 0, 0, 1, 0]);
     let image = [0x81, 0x45, 0, 0xC0, 0x10, 7];
-    assert_eq!(receive(&mut station, &mut store, 0, &image), 0x0001_0001);
+    assert_eq!(receive(&mut station, &mut store, 0, &image), 0x0004_0001);
     assert_eq!(station[8..16], [0x09, 5, 0, 0, 1, 0, 3, 0]);
-    assert_eq!(read(&station, &store, 1), (1, Some(2048)));
+    let mut start = 9;
+    assert_eq!(read(&station, &store, 0, &mut start), NOPACKET);
+    assert_eq!(start, 9);
+    assert_eq!(read(&station, &store, 1, &mut start), 1);
+    assert_eq!(start, 2048);
     assert_eq!(store[2048..2050], [7, 0xAA]);
-    assert_eq!(read(&station, &store, 0), (NOPACKET, None));
     assert_eq!(close(&mut station, 1), 1);
     assert_eq!(station[8..16], [0; 8]);
-    assert_eq!(read(&station, &store, 1), (CLOSED, None));
-    assert_eq!(receive(&mut station, &mut store, 0, &image), 0x0003_0000);
+    assert_eq!(read(&station, &store, 1, &mut start), CLOSED);
+    assert_eq!(receive(&mut station, &mut store, 0, &image), 0x0006_0000);
 }
 
 #[test]
@@ -54,12 +58,13 @@ fn refusals_of_a_station_come_in_order() {
     let mut station = new_station(1);
     let sound = station.clone();
     let mut store = vec![0; STORE_SIZE + 1];
+    let mut start = 9;
     assert_eq!(receive(&mut station, &mut store, 2, &[]), STORE);
-    assert_eq!(read(&station, &store, 16), (STORE, None));
+    assert_eq!(read(&station, &store, 16, &mut start), STORE);
     store.pop();
     assert_eq!(receive(&mut station, &mut store, 2, &[]), FIELD);
     assert_eq!(receive(&mut station, &mut store, 1, &[]), LENGTH);
-    assert_eq!(read(&station, &store, usize::MAX), (CLOSED, None));
+    assert_eq!(read(&station, &store, usize::MAX, &mut start), CLOSED);
     assert_eq!(open(&mut station, 0, &[0, 0, 0, 0, 0]), FIELD);
     assert_eq!(open(&mut station, 0, &[]), FIELD);
     assert_eq!(station, sound);
@@ -68,7 +73,11 @@ fn refusals_of_a_station_come_in_order() {
     assert_eq!(receive(&mut station, &mut store, 2, &[]), STATE);
     assert_eq!(open(&mut station, 2, &[]), STATE);
     assert_eq!(close(&mut station, 99), STATE);
-    assert_eq!(read(&station, &store, 99), (STATE, None));
+    assert_eq!(read(&station, &store, 99, &mut start), STATE);
+    station.clone_from(&sound);
+    station[STATION_SIZE - 1] = 2;
+    assert_eq!(close(&mut station, 99), STATE);
+    assert_eq!(start, 9);
 }
 
 #[test]
@@ -88,7 +97,7 @@ fn a_lost_place_is_written_to_the_record() {
     let mut store = vec![0; STORE_SIZE];
     open(&mut station, 0, &[0; 5]);
     let start = [0x88, 0, 0, 0x40, 0, 1, 2, 3, 4, 5, 6, 7, 8];
-    assert_eq!(receive(&mut station, &mut store, 0, &start), 0x0002_0000);
+    assert_eq!(receive(&mut station, &mut store, 0, &start), 0x0005_0000);
     assert_eq!(station[4..8], [8, 0, 2, 0]);
     let end = [0x81, 0, 0, 0x82, 0, 9];
     assert_eq!(receive(&mut station, &mut store, 0, &end), 0x8000_0007);
@@ -113,9 +122,8 @@ fn filters_and_rows() {
     assert!(filter_accepts(0x00C0, 0xFFBF, 0x1240));
     assert!(!filter_accepts(0x00C0, 0xFFBF, 0x1280));
     let row = [0x00, 0xC0, 0x05, 0x00, 0x00, 0xC0, 0x40, 0x3F];
-    assert_eq!(row_accepts(&row, 0x007F), 1);
-    assert_eq!(row_accepts(&row, 0x0006), 0);
-    assert_eq!(row_accepts(&row[..7], 0x007F), FIELD);
+    assert!(row_accepts(&row, 0x007F));
+    assert!(!row_accepts(&row, 0x0006));
 }
 
 #[test]
@@ -123,19 +131,20 @@ fn a_masters_exchange() {
     let mut master = [9; MASTER_SIZE];
     assert_eq!(master_start(&mut master, 1, 0), STATE);
     assert_eq!(master_new(&mut master), 0);
-    assert_eq!(master, [0; MASTER_SIZE]);
+    assert_eq!(master[..67], [0; 67]);
+    assert_eq!(master[67], 1);
     for kind in [0, 4, 255] {
         assert_eq!(master_start(&mut master, kind, 0), FIELD);
     }
-    assert_eq!(master_start(&mut master, 3, 22), 0x0001_0000);
-    assert_eq!(master[64..], [3, 22, 1]);
+    assert_eq!(master_start(&mut master, 3, 22), 0x0007_0000);
+    assert_eq!(master[64..], [3, 22, 1, 1]);
     assert_eq!(master_start(&mut master, 0, 22), FIELD);
     assert_eq!(master_start(&mut master, 3, 22), 0x8000_0012);
-    assert_eq!(master_timeout(&mut master), 0x0001_0000);
-    assert_eq!(master_timeout(&mut master), 0x0001_0001);
+    assert_eq!(master_timeout(&mut master), 0x0007_0000);
+    assert_eq!(master_timeout(&mut master), 0x0007_0001);
     assert_eq!(master_reply(&mut master, 0, 22, 4), 0x8000_0014);
-    assert_eq!(master_reply(&mut master, 1, 22, 4), 0x0002_0000);
-    assert_eq!(master[64..], [0, 0, 0]);
+    assert_eq!(master_reply(&mut master, 1, 22, 4), 0x0008_0000);
+    assert_eq!(master[64..], [0, 0, 0, 1]);
     assert_eq!(master[22], 1);
     assert_eq!(master_timeout(&mut master), 0x8000_0013);
     assert_eq!(master_new(&mut master[1..]), STATE);
@@ -145,18 +154,23 @@ fn a_masters_exchange() {
 fn a_watch() {
     let mut watch = [0xFF; WATCH_SIZE];
     assert_eq!(watch_new(&mut watch, 0x0403_0201), 0);
-    assert_eq!(watch, [1, 2, 3, 4, 1, 2, 3, 4]);
+    assert_eq!(watch, [1, 2, 3, 4, 1, 2, 3, 4, 1]);
     assert_eq!(watch_heard(&mut watch, 1, 0x0403_0202), 1);
     assert_eq!(watch[4], 2);
-    assert_eq!(watch_check(&mut watch, 0x0403_0201 + 16_000), 1);
-    assert_eq!(watch_check(&mut watch, 0x0403_0202 + 16_000), 2);
-    assert_eq!(watch_check(&mut watch, 0), 3);
+    assert_eq!(watch_check(&mut watch, 0x0403_0201 + 16_000), 1 << 25);
+    assert_eq!(watch_check(&mut watch, 0x0403_0202 + 16_000), 1 << 26);
+    assert_eq!(watch_check(&mut watch, 0), 3 << 25);
     assert_eq!(watch_check(&mut watch, 1), 0);
     assert_eq!(watch_heard(&mut watch, 2, 0), FIELD);
-    for length in [0, 7] {
+    for length in [0, 8] {
         assert_eq!(watch_new(&mut watch[..length], 0), STATE);
         assert_eq!(watch_heard(&mut watch[..length], 2, 0), STATE);
         assert_eq!(watch_check(&mut watch[..length], 0), STATE);
     }
-    assert_eq!(watch, [0, 0, 0, 0, 0, 0, 0, 0]);
+    assert_eq!(watch, [0, 0, 0, 0, 0, 0, 0, 0, 1]);
+}
+
+#[test]
+fn the_release_is_0_2_0() {
+    assert_eq!(version(), 512);
 }
