@@ -22,7 +22,7 @@ use Rattle.station.specs.declared.Station.{Station}
 use Rattle.station.specs.Stations.{stationOf, withSlots}
 use Rattle.words.specs.Words.{wordBytes, wordAt}
 use Rattle.words.proofs.Laws.{written-at, four}
-use Rattle.station_bytes.specs.States.{layout, formatNumber, formatIn, formatAt, progressNumber, progressFrom, keyIn, firstOf, secondOf, slotBytes, slotsBytes, stateBytes, slotIn, slotsFrom, slotWritten, slotsWritten, stationIn, isState}
+use Rattle.station_bytes.specs.States.{layoutNumber, formatNumber, formatIn, formatAt, progressNumber, progressFrom, keyIn, firstOf, secondOf, slotBytes, slotsBytes, stateBytes, slotIn, slotsFrom, slotWritten, slotsWritten, stationIn, isState}
 use Rattle.station_bytes.specs.Parts.{recordsGood, recordCodes, Tested, IsThere}
 use Rattle.station_bytes.proofs.Scans.{codes-length, other-end, not-tested, not-good, its-codes, good-tested}
 
@@ -101,7 +101,7 @@ module _ (state : List ℕ) (bytes : (k : ℕ) → getD state k 0 < 256) where
       let n : length state ≡ 130 = eqb-true (length state) 130 (t .0) in
       let slots = slots-bytes (formatAt state) 16 0 (omega arith) (t .1 .1 .1 .0) in
       let format = format-back (leb-true (getD state 128 0) 1 (t .1 .0)) in
-      let number : getD state 129 0 ≡ layout = eqb-true (getD state 129 0) layout (t .1 .1 .0) in
+      let number : getD state 129 0 ≡ layoutNumber = eqb-true (getD state 129 0) layoutNumber (t .1 .1 .0) in
       let end : drop 128 state ≡ getD state 128 0 ∷ drop 129 state = drop-cons state 128 0 (omega arith) in
       let last : drop 129 state ≡ getD state 129 0 ∷ drop 130 state = drop-cons state 129 0 (omega arith) in
       let none : drop 130 state ≡ [] = drop-of-length-le state {i = 130} (omega arith) in

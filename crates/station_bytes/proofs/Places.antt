@@ -20,12 +20,12 @@ use Rattle.station.specs.Stations.{newStation, area}
 use Rattle.station.specs.Receive.{keyOf, progressOf}
 use Rattle.station.proofs.Turning.{steps}
 use Rattle.words.specs.Words.{wordBytes, wordAt}
-use Rattle.station_bytes.specs.States.{formatNumber, layout, keyIn, progressFrom, progressNumber, slotIn, slotsFrom, stateBytes}
+use Rattle.station_bytes.specs.States.{formatNumber, layoutNumber, keyIn, progressFrom, progressNumber, slotIn, slotsFrom, stateBytes}
 use Rattle.station_bytes.specs.Parts.{StepsIn}
 use Rattle.station_bytes.proofs.Scans.{slot-at, slots-length}
 
 -- the bytes of a new station
-pub new-bytes : (format : Format) → set (set (replicate 130 0) 128 (formatNumber format)) 129 layout ≡ stateBytes (newStation format)
+pub new-bytes : (format : Format) → set (set (replicate 130 0) 128 (formatNumber format)) 129 layoutNumber ≡ stateBytes (newStation format)
 unfolding wordBytes
 new-bytes Extended = refl
 new-bytes Standard = refl

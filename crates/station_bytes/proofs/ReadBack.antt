@@ -34,7 +34,7 @@ use Rattle.stream.specs.Step.{held}
 use Rattle.station.specs.Read.{reading}
 use Rattle.words.specs.Words.{wordBytes, wordAt}
 use Rattle.words.proofs.Laws.{read-after, four}
-use Rattle.station_bytes.specs.States.{layout, formatNumber, endBytes, formatIn, formatAt, progressNumber, progressFrom, keyIn, firstOf, secondOf, slotBytes, slotsBytes, stateBytes, slotIn, slotsFrom, slotWritten, slotsWritten, stationIn, isState}
+use Rattle.station_bytes.specs.States.{layoutNumber, formatNumber, endBytes, formatIn, formatAt, progressNumber, progressFrom, keyIn, firstOf, secondOf, slotBytes, slotsBytes, stateBytes, slotIn, slotsFrom, slotWritten, slotsWritten, stationIn, isState}
 use Rattle.station_bytes.specs.Calls.{readIn}
 use Rattle.station_bytes.specs.Parts.{Tested}
 use Rattle.station_bytes.specs.Claims.{ReadBack, WrittenBack, NotWritten}
@@ -231,7 +231,7 @@ read-back station s =
         eq-eqb (length state) 130 size,
         (
           ap (λ (n : ℕ). leb n 1) (behind 0) ∙ format-small format,
-          (eq-eqb (getD state 129 0) layout (behind 1), (ap (λ (f : Format). slotsWritten f state 0 16) same ∙ slots-are, tt)),
+          (eq-eqb (getD state 129 0) layoutNumber (behind 1), (ap (λ (f : Format). slotsWritten f state 0 16) same ∙ slots-are, tt)),
         ),
       ),
       ap (λ (f : Format). stationOf f (slotsFrom f state 0 16)) same ∙ ap (stationOf format) slots-read,

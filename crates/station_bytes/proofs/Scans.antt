@@ -20,7 +20,7 @@ use Rattle.slot.proofs.CodeLaws.{sound-codes}
 use Rattle.slot.proofs.Rows.{row-next, row-full}
 use Rattle.station.specs.Stations.{soundStation}
 use Rattle.words.specs.Words.{wordAt}
-use Rattle.station_bytes.specs.States.{layout, formatAt, slotIn, slotsFrom, slotWritten, slotsWritten, stationIn, isState}
+use Rattle.station_bytes.specs.States.{layoutNumber, formatAt, slotIn, slotsFrom, slotWritten, slotsWritten, stationIn, isState}
 use Rattle.station_bytes.specs.Parts.{keyFits, progressFits, recordGood, recordsGood, recordCode, recordCodes}
 use Rattle.station_bytes.proofs.Records.{tidy-open, record-good, record-code}
 
@@ -132,11 +132,11 @@ module _ (state : List ℕ) where
 
   -- the two bytes behind the slots are no format and this layout
   abbrev pub other-end : Bool
-  other-end = ltb 1 (getD state 128 0) || not (eqb (getD state 129 0) layout)
+  other-end = ltb 1 (getD state 128 0) || not (eqb (getD state 129 0) layoutNumber)
 
   pub not-end : other-end ≡ true → isState state ≡ false
   unfolding isState allTrue
-  not-end e = rw at-most (go (eqb (length state) 130) (ltb 1 (getD state 128 0)) (eqb (getD state 129 0) layout) e)
+  not-end e = rw at-most (go (eqb (length state) 130) (ltb 1 (getD state 128 0)) (eqb (getD state 129 0) layoutNumber) e)
     where
       go : (n f l : Bool) → (f || not l) ≡ true → (((n && not f) && l) && slotsWritten (formatAt state) state 0 16) ≡ false
       go false f l e = refl
@@ -150,7 +150,7 @@ module _ (state : List ℕ) where
   module _ (n : length state ≡ 130) (f : other-end ≡ false) where
     is-written : isState state ≡ slotsWritten (formatAt state) state 0 16
     unfolding isState allTrue
-    is-written = rw (eq-eqb (length state) 130 n, at-most) (go (ltb 1 (getD state 128 0)) (eqb (getD state 129 0) layout) f)
+    is-written = rw (eq-eqb (length state) 130 n, at-most) (go (ltb 1 (getD state 128 0)) (eqb (getD state 129 0) layoutNumber) f)
       where
         go : (f l : Bool) → (f || not l) ≡ false → ((not f && l) && slotsWritten (formatAt state) state 0 16) ≡ slotsWritten (formatAt state) state 0 16
         go true l e = absurd (false≢true (sym e))

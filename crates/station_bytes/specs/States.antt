@@ -53,12 +53,12 @@ slotsBytes [] = []
 slotsBytes (slot ∷ slots) = slotBytes slot ++ slotsBytes slots
 
 -- the number of this layout
-abbrev pub layout : ℕ
-layout = 1
+abbrev pub layoutNumber : ℕ
+layoutNumber = 1
 
 -- the two bytes behind the slots
 abbrev pub endBytes : Format → List ℕ
-endBytes format = formatNumber format ∷ layout ∷ []
+endBytes format = formatNumber format ∷ layoutNumber ∷ []
 
 abbrev pub stateBytes : Station → List ℕ
 stateBytes station = slotsBytes (station .slots) ++ endBytes (station .format)
@@ -108,4 +108,4 @@ slotsWritten format state i (suc n) =
 unfoldable pub isState : List ℕ → Bool
 isState state =
     allTrue
-    (eqb (length state) 130 ∷ leb (getD state 128 0) 1 ∷ eqb (getD state 129 0) layout ∷ slotsWritten (formatAt state) state 0 16 ∷ [])
+    (eqb (length state) 130 ∷ leb (getD state 128 0) 1 ∷ eqb (getD state 129 0) layoutNumber ∷ slotsWritten (formatAt state) state 0 16 ∷ [])
