@@ -1,15 +1,15 @@
 -- The call: refused, or all that can be listed.
 use Prim.Native.Nat.{ℕ, _+_, _≤_, _<_}
-use mathlib.Core.Path.{_≡_, refl, sym, ap, _∙_}
+use mathlib.Core.Path.{_≡_, sym, ap, _∙_}
 use native.Mathlib.Omega.{arith}
 use mathlib.Core.Logic.{_≢_}
-use mathlib.Core.Bool.{Bool, true, false, not}
-use mathlib.Core.List.{List, [], _∷_}
+use mathlib.Core.Bool.{true, false, not}
+use mathlib.Core.List.{List}
 use lib.ListN.{length}
-use borrow.Author.Tests.{eq-eqb, ne-eqb, leb-true, leb-false}
+use borrow.Author.Tests.{eq-eqb, ne-eqb, leb-true, leb-false, not-true, not-false}
 use Rattle.format.specs.declared.Format.the-variants.{Extended}
 use Rattle.format.specs.declared.Refusal.the-variants.{State, Store}
-use Rattle.format.specs.Refusals.{Result, value, refused, check, guarded}
+use Rattle.format.specs.Refusals.{Result, value, refused}
 use Rattle.format.proofs.Checks.{stop, pass, none-left}
 use Rattle.copying.specs.Copy.{within, copied}
 use Rattle.copying.proofs.Copying.{head-copied, none-copied}
@@ -23,14 +23,6 @@ use Rattle.lister.specs.declared.Listing.{Listing}
 use Rattle.lister.specs.declared.Why.the-variants.{Refused}
 use Rattle.lister.specs.Listing as room
 use Rattle.lister.specs.Listing.{Reached, listed, handedBack, begun, listing, listingAfter, stopsAt, lastLines, ending}
-
-pub not-true : (b : Bool) → not b ≡ true → b ≡ false
-not-true true e = cc
-not-true false e = refl
-
-pub not-false : (b : Bool) → not b ≡ false → b ≡ true
-not-false true e = refl
-not-false false e = cc
 
 module _ (l : Listing) (store taken output : List ℕ) where
   abbrev all-of-it : Reached

@@ -1,14 +1,12 @@
 -- A line, written or refused.
-use Prim.Native.Nat.{ℕ, _+_, _≤_, _<_}
-use mathlib.Core.Path.{_≡_, refl, sym, ap, _∙_}
-use mathlib.Core.Bool.{Bool, true, false, not}
-use mathlib.Core.List.{List, [], _∷_, _++_}
-use native.Mathlib.Nat.{zero-add}
+use Prim.Native.Nat.{ℕ, _≤_, _<_}
+use mathlib.Core.Path.{_≡_, ap, _∙_}
+use mathlib.Core.Bool.{true, false, not}
+use mathlib.Core.List.{List}
 use native.Mathlib.Omega.{arith}
 use lib.ListN.{length, take, length-take}
-use lib.Seq.{length-take-le}
-use borrow.Author.Tests.{le-leb, lt-leb}
-use Rattle.copying.specs.Copy.{written, copied}
+use borrow.Author.Tests.{not-true, not-false}
+use Rattle.copying.specs.Copy.{copied}
 use Rattle.copying.proofs.Copying.{head-copied}
 use Rattle.format.specs.Refusals.{Result, value, refused}
 use Rattle.format.specs.Outputs.{fitting, Writes}
@@ -29,14 +27,6 @@ module _ {text bytes : List ℕ} {r : ℕ} {last : List ℕ} where
 
   pub within : Put text 0 bytes r last → r ≤ length last
   within p = omega (arith, size-of p, ap length (all-of p), length-take r last)
-
-not-true : (b : Bool) → not b ≡ true → b ≡ false
-not-true true e = cc
-not-true false e = refl
-
-not-false : (b : Bool) → not b ≡ false → b ≡ true
-not-false true e = refl
-not-false false e = cc
 
 module _ (line : Line) (output : List ℕ) where
   -- what the call answers, and the output afterwards

@@ -8,7 +8,7 @@ use Rattle.trace.specs.Lines.{lineText, lineInRange, stoppedLine, countLine}
 use Rattle.trace.specs.Claims.{RoomForLine}
 use Rattle.trace.proofs.LineRoom.{room-for-line}
 use Rattle.lister.proofs.Placing.{adds-then, adds-as}
-use Rattle.lister.proofs.Calling.{not-true, not-false}
+use borrow.Author.Tests.{not-true, not-false}
 use borrow.Author.Needs.{needs}
 use Rattle.lister.proofs.put_end.Statement.{statement}
 use Rattle.lister.proofs.put_end.Tie as tie

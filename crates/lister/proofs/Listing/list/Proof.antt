@@ -1,8 +1,9 @@
 -- `lister::Listing::list` meets its contract: refused, or all that can be listed (Calling).
 use mathlib.Core.Path.{_∙_}
 use native.Mathlib.Omega.{arith}
-use Rattle.lister.proofs.Calling.{not-false, at-state, at-store, at-all}
+use Rattle.lister.proofs.Calling.{at-state, at-store, at-all}
 use borrow.Author.Needs.{needs}
+use borrow.Author.Tests.{not-false}
 use Rattle.lister.proofs.Listing.list.Statement.{statement}
 use Rattle.lister.proofs.Listing.list.Tie as tie
 
