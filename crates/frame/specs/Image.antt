@@ -36,4 +36,8 @@ imageOf frame =
 unfoldable pub soundFrame : Frame → Bool
 soundFrame frame =
     let fm : Format = formatOf (frame .fields) in
-    allTrue (inRange (frame .fields) ∷ ltb (frame .number) (numberRange fm) ∷ pieceRule fm (frame .flag) (length (dataOf frame)) (frame .number) ∷ [])
+    allTrue
+    (inRange (frame .fields)
+    ∷ ltb (frame .number) (numberRange fm)
+    ∷ pieceRule fm (frame .flag) (length (dataOf frame)) (frame .number)
+    ∷ [])

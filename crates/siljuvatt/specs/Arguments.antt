@@ -15,7 +15,8 @@ noFields = fields.Standard 255 0 0
 
 unfoldable pub extendedFields : List ℕ → Fields
 extendedFields bytes =
-    cond (eqb (length bytes) 5) (fields.Extended (getD bytes 0 0) (getD bytes 1 0) (getD bytes 2 0) (getD bytes 3 0) (getD bytes 4 0)) noFields
+    cond (eqb (length bytes) 5)
+    (fields.Extended (getD bytes 0 0) (getD bytes 1 0) (getD bytes 2 0) (getD bytes 3 0) (getD bytes 4 0)) noFields
 
 unfoldable pub standardFields : List ℕ → Fields
 standardFields bytes = cond (eqb (length bytes) 3) (fields.Standard (getD bytes 0 0) (getD bytes 1 0) (getD bytes 2 0)) noFields

@@ -66,7 +66,8 @@ node n = at 0 (fields.Extended 1 n 2 6 3) Idle
 
 abbrev full : List Slot
 full =
-    node 0 ∷ node 1 ∷ node 2 ∷ node 3 ∷ node 4 ∷ node 5 ∷ node 6 ∷ node 7 ∷ node 8 ∷ node 9 ∷ node 10 ∷ node 11 ∷ node 12 ∷ node 13 ∷ node 14
+    node 0 ∷ node 1 ∷ node 2 ∷ node 3 ∷ node 4 ∷ node 5 ∷ node 6 ∷ node 7
+    ∷ node 8 ∷ node 9 ∷ node 10 ∷ node 11 ∷ node 12 ∷ node 13 ∷ node 14
     ∷ at 1 own (Done 9) ∷ []
 
 abbrev unsound : List Slot

@@ -214,12 +214,14 @@ idled (Open stream) = openSlot (stream .key) Idle
 -- the station that a call refused by n hands back, where it concerned slot i
 unfoldable pub leftBy : (n : ℕ) → Station → (i : ℕ) → Station
 leftBy n station i =
-    cond (eqb n (number Step) || eqb n (number Long)) (withSlots station (set (station .slots) i (idled (slotAt (station .slots) i .occupancy))))
+    cond (eqb n (number Step) || eqb n (number Long))
+    (withSlots station (set (station .slots) i (idled (slotAt (station .slots) i .occupancy))))
     station
 
 -- whatever station, store, bus, image, key or slot number is handed in
 pub record RefusedKeeps : Type 0 where
-  pub receives : (station : Station) (store : List ℕ) (bus : ℕ) (image : List ℕ) (n : ℕ) → receive station store bus image .answer ≡ refused n
+  pub receives : (station : Station) (store : List ℕ) (bus : ℕ) (image : List ℕ) (n : ℕ)
+      → receive station store bus image .answer ≡ refused n
       → receive station store bus image
       ≡ record { answer = refused n; station = leftBy n station (concerned station store bus image); store = store }
   pub opens : (station : Station) (key : Key) (n : ℕ) → opening station key .answer ≡ refused n → opening station key .station ≡ station
@@ -251,6 +253,7 @@ pub record CanBeMet : Type 0 where
   pub first : (format : Format) (key : Key) → keyInRange format key ≡ true → opening (newStation format) key .answer ≡ value 0
   -- a station that has opened it is sound and has that stream, idle, beside the streams that it had
   pub opened : (station : Station) (key : Key) (i : ℕ) → opening station key .answer ≡ value i
-      → (soundStation (opening station key .station) ≡ true) × IsStream (opening station key .station) i (record { key = key; progress = Idle })
+      → (soundStation (opening station key .station) ≡ true)
+      × IsStream (opening station key .station) i (record { key = key; progress = Idle })
   pub beside : (station : Station) (key : Key) (i : ℕ) (stream : Stream) → IsStream station i stream
       → IsStream (opening station key .station) i stream

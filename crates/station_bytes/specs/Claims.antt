@@ -27,7 +27,9 @@ use Rattle.station_bytes.specs.Calls.{BytesAfter, inBytes, receiveIn, as
 
 -- the bytes of a sound station are a state's, and read back they are that station
 unfoldable pub ReadBack : Type 0
-ReadBack = (station : Station) → soundStation station ≡ true → (isState (stateBytes station) ≡ true) × (stationIn (stateBytes station) ≡ station)
+ReadBack =
+    (station : Station)
+    → soundStation station ≡ true → (isState (stateBytes station) ≡ true) × (stationIn (stateBytes station) ≡ station)
 
 -- bytes that are a state's are those that the station read from them writes
 unfoldable pub WrittenBack : Type 0
@@ -122,7 +124,8 @@ pub record EndsAsRun (station : Station) (store : List ℕ) (calls : List Call) 
 
 unfoldable pub AsRun : Type 0
 AsRun =
-    (station : Station) (store : List ℕ) → soundStation station ≡ true → (calls : List Call) (ran : Ran) (end : CallsEnd station store calls ran)
+    (station : Station) (store : List ℕ) → soundStation station ≡ true
+    → (calls : List Call) (ran : Ran) (end : CallsEnd station store calls ran)
     → EndsAsRun station store calls ran end
 
 -- so demand 3, and the last sentence of demand 2, hold of them, for every sound station and full-size store
@@ -139,5 +142,6 @@ RoundTripOnBytes =
 -- and what is read of the station in the end is read from the bytes in the end
 unfoldable pub ReadAtEnd : Type 0
 ReadAtEnd =
-    (station : Station) (store : List ℕ) → soundStation station ≡ true → (calls : List Call) (ran : Ran) (end : CallsEnd station store calls ran)
+    (station : Station) (store : List ℕ) → soundStation station ≡ true
+    → (calls : List Call) (ran : Ran) (end : CallsEnd station store calls ran)
     → (i : ℕ) → readIn (lastOf (stateBytes station) (end .givens)) (ran .store) i ≡ reading (ran .station) (ran .store) i

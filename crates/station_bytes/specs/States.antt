@@ -108,4 +108,8 @@ slotsWritten format state i (suc n) =
 unfoldable pub isState : List ℕ → Bool
 isState state =
     allTrue
-    (eqb (length state) 130 ∷ leb (getD state 128 0) 1 ∷ eqb (getD state 129 0) layoutNumber ∷ slotsWritten (formatAt state) state 0 16 ∷ [])
+    (eqb (length state) 130
+    ∷ leb (getD state 128 0) 1
+    ∷ eqb (getD state 129 0) layoutNumber
+    ∷ slotsWritten (formatAt state) state 0 16
+    ∷ [])

@@ -91,7 +91,8 @@ stepOf format area progress flag n bytes = stepped (pieceSize format) (numberRan
 
 abbrev pub Holds : Bound → Type 0
 Holds (steps format progress flag n size said next) =
-    (stepOf format [] progress flag n (replicate size 7) .answer ≡ said) × (stepOf format [] progress flag n (replicate size 7) .progress ≡ next)
+    (stepOf format [] progress flag n (replicate size 7) .answer ≡ said)
+    × (stepOf format [] progress flag n (replicate size 7) .progress ≡ next)
 Holds (writes format area progress flag n bytes last) = stepOf format area progress flag n bytes .area ≡ last
 Holds (offers area size said) = offered Extended Idle (replicate area 0) Single 0 (replicate size 7) .answer ≡ said
 
