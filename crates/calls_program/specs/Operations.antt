@@ -6,12 +6,13 @@ use mathlib.Core.List.{List, [], _∷_}
 use lib.Dec.{eqb, leb}
 use lib.ListN.{length}
 use Rattle.format.specs.Tests.{allTrue}
+use Rattle.format.specs.Refusals.{number}
 use Rattle.master.specs.declared.Master.{Master}
 use Rattle.master.specs.Masters.{newMaster}
 use Rattle.master.specs.Exchanges.{MasterAfter, starting, replying, timingOut}
 use Rattle.watch.specs.declared.Watch.{Watch}
 use Rattle.watch.specs.Watching.{newWatch, hearing, checking}
-use Rattle.calls_program.specs.Requests.{byteAt, number2At, number4At, kindNamed, masterNamed}
+use Rattle.calls_program.specs.Requests.{byteAt, number2At, number4At, kindNamed, refusalNamed, masterNamed}
 use Rattle.calls_program.specs.Responses.{answerBytes, outcomeBytes, toldBytes, resetsOf}
 
 -- operations, and what their requests have to meet
@@ -64,12 +65,12 @@ stationArgs operation args others =
     ∷ [])
     others
 
--- a refusal that is none of 1 to 21; more identifiers than 32,768; a line's kind over 4, its format over 1; a longer room than 4,096; a
+-- a number that is no refusal's; more identifiers than 32,768; a line's kind over 4, its format over 1; a longer room than 4,096; a
 -- node over 63, a kind of exchange over 3, or one that is none of 1 to 3
 unfoldable pub otherArgs : ℕ → List ℕ → Bool
 otherArgs operation args =
     ruled operation
-    (rule (14 ∷ []) (allTrue (leb 1 (byteAt args 0) ∷ leb (byteAt args 0) 21 ∷ []))
+    (rule (14 ∷ []) (eqb (number (refusalNamed (byteAt args 0))) (byteAt args 0))
     ∷ rule (15 ∷ []) (leb (number2At args 6) 32768)
     ∷ rule (16 ∷ []) (leb (number2At args 10) 32768)
     ∷ rule (18 ∷ []) (allTrue (leb (byteAt args 1) 4 ∷ leb (byteAt args 11) 1 ∷ []))

@@ -1,6 +1,7 @@
 -- compare/PROTOCOL.md: what stands where in the arguments of a request. "Numbers of more than one byte have their high byte first." A byte
 -- past the end is 0, which no request has (Operations).
 use Prim.Native.Nat.{ℕ, _+_, _-_, _*_, _%_}
+use mathlib.Core.Path.{_≡_}
 use mathlib.Core.Bool.{cond}
 use mathlib.Core.List.{List, [], _∷_}
 use lib.Dec.{eqb, leb}
@@ -11,6 +12,7 @@ use Rattle.format.specs.declared.Fields.{Fields}
 use Rattle.format.specs.declared.Fields.the-variants as fields
 use Rattle.format.specs.declared.Refusal.{Refusal}
 use Rattle.format.specs.declared.Refusal.the-variants as refusal
+use Rattle.format.specs.Refusals.{number}
 use Rattle.frame.specs.Layout.{flagOf}
 use Rattle.master.specs.declared.Kind.{Kind}
 use Rattle.master.specs.declared.Kind.the-variants.{Poll, DataBlock, Command}
@@ -82,21 +84,29 @@ slotNamed kind h key =
     cond (eqb kind 0) closedSlot
     (openSlot key (cond (eqb kind 1) progress.Idle (cond (eqb kind 2) (progress.Collecting h) (progress.Done h))))
 
--- "a refusal's place in document 01's table, 1 to 21"; of a line "one that is not 1 to 20 is read as 21", and so is 0
+-- "a refusal's number"; of a line "one that is no refusal's is read as 21"
 abbrev pub refusalTable : List Refusal
 refusalTable =
-    refusal.State ∷ refusal.Length ∷ refusal.Form ∷ refusal.Remote ∷ refusal.Count ∷ refusal.Piece
+    refusal.Length ∷ refusal.Form ∷ refusal.Remote ∷ refusal.Count ∷ refusal.Piece
     ∷ refusal.Orphan ∷ refusal.Step ∷ refusal.Long ∷ refusal.Field ∷ refusal.Size ∷ refusal.Index
     ∷ refusal.Room ∷ refusal.Store ∷ refusal.Taken ∷ refusal.Full ∷ refusal.Closed ∷ refusal.NoPacket
     ∷ refusal.Busy ∷ refusal.Idle ∷ refusal.NotAwaited ∷ []
 
+abbrev pub namedIn : List Refusal → (n : ℕ) → Refusal
+namedIn [] n = refusal.State
+namedIn (name ∷ names) n = cond (eqb (number name) n) name (namedIn names n)
+
 unfoldable pub refusalNamed : ℕ → Refusal
-refusalNamed place = getD refusalTable place refusal.State
+refusalNamed n = namedIn refusalTable n
+
+-- no refusal is left out
+unfoldable pub EachNamed : Type 0
+EachNamed = (name : Refusal) → refusalNamed (number name) ≡ name
 
 -- A line "is 29 bytes, of which each kind looks at its own: kind (0 header, 1 frame, 2 refused image, 3 stopped, 4 records), ordinal or
 -- count (8 bytes), bus, format, 5 fields, flag, number, count, and an answer in 10 bytes: its kind (1 to 4 as below), its number (8 bytes;
--- of a refusal its place in the table, as of NUMBER), and 1 if it is "broke", else 0. [..] another kind of answer as 4 [..] of a refusal's
--- place the lowest byte counts". It comes after the room, at place 1.
+-- of a refusal its own, as of NUMBER), and 1 if it is "broke", else 0. [..] another kind of answer as 4 [..] of a refusal's
+-- number the lowest byte counts". It comes after the room, at place 1.
 unfoldable pub answerOfLine : List ℕ → Answer
 answerOfLine args =
     cond (eqb (byteAt args 20) 1) (answer.Packet (number8At args 21) (eqb (byteAt args 29) 1))

@@ -2,6 +2,7 @@
 // bytes that each has, and what its table rules out.
 use crate::request::byte;
 use crate::request::number;
+use crate::request::refusal_of;
 ghost use mathlib.Core.Path.{_≡_};
 ghost use Rattle.calls_program.specs.Operations.{argsFit, stationArgs, otherArgs, isRequest};
 
@@ -120,7 +121,7 @@ fn within_others(operation: u8, args: &[u8]) -> bool
     ensures { λ r. ⌜ r ≡ otherArgs operation (now (args .entry)) ⌝ }
 {
     match operation {
-        NUMBER => (1 <= byte(args, 0)) & (byte(args, 0) <= 21),
+        NUMBER => refusal_of(byte(args, 0)).number() == byte(args, 0),
         FILTER => number(args, 6) <= IDENTIFIERS,
         ROW => number(args, 10) <= IDENTIFIERS,
         LINE => (byte(args, 1) <= 4) & (byte(args, 11) <= 1),

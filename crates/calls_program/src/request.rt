@@ -12,7 +12,7 @@ ghost use mathlib.Core.Path.{_≡_};
 ghost use Prim.Native.Nat.{_<_};
 ghost use Rattle.frame.specs.Layout.{flagOf};
 ghost use Rattle.calls_program.specs.Requests.{byteAt, number2At, number4At, number8At, bytesBetween, bytesFrom, formatNamed, fieldsAt, keyAt};
-ghost use Rattle.calls_program.specs.Requests.{kindNamed, refusalNamed, answerOfLine, frameOfLine, lineOf};
+ghost use Rattle.calls_program.specs.Requests.{kindNamed, refusalNamed, EachNamed, answerOfLine, frameOfLine, lineOf};
 
 // The byte at a place.
 pub fn byte(args: &[u8], at: usize) -> u8
@@ -143,11 +143,11 @@ fn flag_of(code: u8) -> Flag
     }
 }
 
-// The refusal of a place in document 01's table, 1 to 21.
-pub fn refusal_of(place: u8) -> Refusal
-    ensures { λ r. ⌜ r ≡ refusalNamed place ⌝ }
+// The refusal of a number; one that is no refusal's is read as STATE.
+pub fn refusal_of(number: u8) -> Refusal
+    ensures { λ r. ⌜ r ≡ refusalNamed number ⌝ }
 {
-    match place {
+    match number {
         1 => Refusal::Length,
         2 => Refusal::Form,
         3 => Refusal::Remote,
@@ -171,6 +171,11 @@ pub fn refusal_of(place: u8) -> Refusal
         _ => Refusal::State,
     }
 }
+
+// It does nothing: its contract ties it to its proof that every refusal has a place above.
+pub fn each_named()
+    ensures { λ _. ⌜ EachNamed ⌝ }
+{}
 
 // The answer in a line: ten bytes from place 20 on, of which the number's lowest names a refusal.
 fn answer_in(args: &[u8]) -> Answer

@@ -5,6 +5,7 @@ use Prim.Native.Nat.{ℕ}
 use mathlib.Core.Path.{_≡_}
 use mathlib.Core.Bool.{Bool, true, false}
 use mathlib.Core.List.{List, [], _∷_}
+use lib.ListN.{replicate}
 use Rattle.format.specs.declared.Format.{Format}
 use Rattle.format.specs.declared.Format.the-variants.{Extended, Standard}
 use Rattle.format.specs.declared.Fields.{Fields}
@@ -36,7 +37,8 @@ use Rattle.format.specs.declared.Refusal.the-variants.{
   State,
 }
 use Rattle.format.specs.Formats.{packetLimit, pieceSize, headerSize, numberRange, flagBits, packetStart, inRange}
-use Rattle.format.specs.Refusals.{number}
+use Rattle.format.specs.Refusals.{Result, value, refused, number}
+use Rattle.format.specs.Outputs.{fitting, answer, outputAfter}
 use Rattle.format.specs.Tables.{AllHold}
 
 pub data Bound : Type 0 where
@@ -50,6 +52,8 @@ pub data Bound : Type 0 where
   starts : Format → Flag → ℕ → Bound
   -- whether fields are in range
   ranges : Fields → Bool → Bound
+  -- so many bytes, all of them 7, for an output of `room` bytes, all of them 1: the answer, and the output afterwards
+  writes : (size room : ℕ) → Result ℕ → List ℕ → Bound
 
 abbrev pub table : List Bound
 table =
@@ -103,6 +107,12 @@ table =
     ∷ ranges (fields.Standard 4 63 1) false
     ∷ ranges (fields.Standard 3 64 1) false
     ∷ ranges (fields.Standard 3 63 2) false
+    -- ROOM: an output that is shorter, which then stays; the rest of one that is longer stays
+    ∷ writes 0 0 (value 0) []
+    ∷ writes 0 2 (value 0) (1 ∷ 1 ∷ [])
+    ∷ writes 2 1 (refused 12) (1 ∷ [])
+    ∷ writes 2 2 (value 2) (7 ∷ 7 ∷ [])
+    ∷ writes 2 4 (value 2) (7 ∷ 7 ∷ 1 ∷ 1 ∷ [])
     ∷ []
 
 abbrev pub Holds : Bound → Type 0
@@ -112,6 +122,8 @@ Holds (limits format packet piece header range) =
     packetLimit format ∷ pieceSize format ∷ headerSize format ∷ numberRange format ∷ [] ≡ packet ∷ piece ∷ header ∷ range ∷ []
 Holds (starts format flag n) = packetStart format flag ≡ n
 Holds (ranges said ok) = inRange said ≡ ok
+Holds (writes size room said bytes) =
+    let given = fitting (replicate size 7) room in (answer given ≡ said) × (outputAfter given (replicate room 1) ≡ bytes)
 
 unfoldable pub FormatBounds : Type 0
 FormatBounds = AllHold Holds table

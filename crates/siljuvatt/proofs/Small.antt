@@ -1,4 +1,4 @@
--- What each call answers is small, and a refusal one of the 21.
+-- What each call answers is small, and the number of a refusal a byte and not 0.
 use Prim.Native.Nat.{ℕ, zero, suc, _+_, _≤_, _<_}
 use mathlib.Core.Path.{_≡_, refl, sym, ap}
 use mathlib.Core.Bool.{Bool, true, false, cond}

@@ -8,9 +8,9 @@ use Rattle.format.specs.Refusals.{Result, value, refused}
 use Rattle.stream.specs.Answers.{Reply, packet, kept, filtered}
 use Rattle.master.specs.Exchanges.{Told, send, done, gaveUp}
 
--- the release of the library: 65,536 × major + 256 × minor + patch, here 0.2.0
-abbrev pub release : ℕ
-release = 512
+-- the version of the library: 65,536 × major + 256 × minor + patch, here 0.2.0
+abbrev pub version : ℕ
+version = 512
 
 abbrev pub refusedWord : ℕ → ℕ
 refusedWord n = 2147483648 + n

@@ -13,7 +13,7 @@ use Rattle.format.specs.Refusals.{Result, value, refused}
 use Rattle.format.specs.Tables.{AllHold}
 use Rattle.stream.specs.Answers.{Reply, packet, kept, filtered}
 use Rattle.master.specs.Exchanges.{Told, send, done, gaveUp}
-use Rattle.siljuvatt.specs.Answers.{release, outcomeWord, replyWord, toldWord, resetWord}
+use Rattle.siljuvatt.specs.Answers.{version, outcomeWord, replyWord, toldWord, resetWord}
 use Rattle.siljuvatt.specs.Arguments.{fieldsFrom}
 use Rattle.siljuvatt.specs.Calls.{countIn, newIn, startAfter}
 
@@ -22,8 +22,8 @@ pub data Bound : Type 0 where
   replies : Result Reply → ℕ → Bound
   tells : Result Told → ℕ → Bound
   resets : Result ℕ → ℕ → Bound
-  -- the release
-  releases : (number : ℕ) → Bound
+  -- the version
+  versions : (number : ℕ) → Bound
   -- a format's number and bytes: the fields that they are, and whether these are in range
   reads : (format : ℕ) → List ℕ → Fields → Bool → Bound
   -- the piece count of a packet of that size
@@ -60,7 +60,7 @@ table =
     ∷ resets (value 3) 0x06000000
     ∷ resets (refused 21) 0x80000015
     -- 0.2.0
-    ∷ releases 0x00000200
+    ∷ versions 0x00000200
     -- 0 extended: priority, source, group, destination, function; 1 standard: priority, address, side; else none
     ∷ reads 0 (1 ∷ 5 ∷ 2 ∷ 6 ∷ 3 ∷ []) (fields.Extended 1 5 2 6 3) true
     ∷ reads 0 (3 ∷ 63 ∷ 3 ∷ 63 ∷ 32 ∷ []) (fields.Extended 3 63 3 63 32) false
@@ -94,7 +94,7 @@ Holds (outcomes said word) = outcomeWord said ≡ word
 Holds (replies said word) = replyWord said ≡ word
 Holds (tells said word) = toldWord said ≡ word
 Holds (resets said word) = resetWord said ≡ word
-Holds (releases number) = release ≡ number
+Holds (versions number) = version ≡ number
 Holds (reads format bytes said ok) = (fieldsFrom format bytes ≡ said) × (inRange said ≡ ok)
 Holds (counts format size said) = countIn format size ≡ said
 Holds (news size format said) = newIn (replicate size 7) format .answer ≡ said

@@ -24,7 +24,7 @@ ghost use Rattle.station.specs.Read.{lengthOf};
 ghost use Rattle.station_bytes.specs.Calls.{receiveIn, openIn, closeIn, readIn};
 ghost use Rattle.master_bytes.specs.Calls as masters;
 ghost use Rattle.watch_bytes.specs.States as watches;
-ghost use Rattle.siljuvatt.specs.Answers.{release, refusedWord, brokeWord, outcomeWord, replyWord, toldWord, resetWord};
+ghost use Rattle.siljuvatt.specs.Answers.{version, refusedWord, brokeWord, outcomeWord, replyWord, toldWord, resetWord};
 ghost use Rattle.siljuvatt.specs.Arguments.{noFields, extendedFields, standardFields, fieldsFrom, keyFrom};
 ghost use Rattle.siljuvatt.specs.Calls.{countIn, newIn, startAfter};
 ghost use Rattle.siljuvatt.specs.Claims.{OneWord, Small, ReadsThere};
@@ -88,7 +88,7 @@ fn told_word(answer: master::Answer) -> u32
     }
 }
 
-// Where a check says of bus A, and beside it of bus B, that it is to be reset: bits that no refusal has.
+// A check's answer: bit 25 for bus A, bit 26 for bus B. No refusal has these bits.
 fn reset_word(outcome: Outcome) -> u32
     ensures { λ r. ⌜ r ≡ resetWord (outcomes.meaning outcome) ⌝ }
 {
@@ -156,10 +156,10 @@ fn format_in(state: &[u8]) -> u8
     if 128 < state.len() { state[128] } else { 0 }
 }
 
-// The release of the library: 65,536 × major + 256 × minor + patch.
+// The version of the library: 65,536 × major + 256 × minor + patch.
 #[no_mangle]
 pub extern "C" fn siljuvatt_version() -> u32
-    ensures { λ r. ⌜ r ≡ release ⌝ }
+    ensures { λ r. ⌜ r ≡ version ⌝ }
 {
     512
 }

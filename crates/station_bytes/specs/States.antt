@@ -52,7 +52,7 @@ abbrev pub slotsBytes : List Slot → List ℕ
 slotsBytes [] = []
 slotsBytes (slot ∷ slots) = slotBytes slot ++ slotsBytes slots
 
--- the number of this layout
+-- a release that writes other bytes for a station gives them another number
 abbrev pub layoutNumber : ℕ
 layoutNumber = 1
 

@@ -22,7 +22,7 @@ use Rattle.watch.specs.Watching as watching
 use Rattle.watch.specs.Claims as watches
 use Rattle.watch.proofs.Claims.{refused-keeps as watch-keeps, no-reset-keeps}
 use Rattle.watch_bytes.specs.States.{WatchBytesAfter, layoutNumber, stateBytes, watchIn, isState, notState, onState, renew, hearing, resets, checking}
-use Rattle.watch_bytes.specs.Claims.{ReadBack, WrittenIsState, WrittenBack, RefusedKeeps, Examples}
+use Rattle.watch_bytes.specs.Claims.{ReadBack, WrittenIsState, WrittenBack, NoWatches, RefusedKeeps, Examples}
 
 pub read-back : ReadBack
 unfolding ReadBack stateBytes watchIn
@@ -49,6 +49,17 @@ written-back state bytes h =
     (take-append-drop 8 state)
 
 -- ---- the calls
+
+pub no-watches : NoWatches
+unfolding NoWatches WrittenBack hearing checking
+no-watches state bytes none bus time = (rw is-none, rw is-none)
+  where
+    go : (b : Bool) → isState state ≡ b → isState state ≡ false
+    go true s = absurd (none (watchIn state) (written-back state bytes s))
+    go false s = s
+
+    is-none : isState state ≡ false
+    is-none = go (isState state) refl
 
 -- of bytes of a watch, what is refused leaves the watch, and so the bytes
 pub there : (state : List ℕ) → Bytes state → isState state ≡ true → (bus time : ℕ) (heard : Heard) (name : Refusal)

@@ -1,6 +1,7 @@
 -- What is proved of a watch in lent bytes; proofs/Claims.antt and proofs/Runs.antt have the proofs.
 use Prim.Native.Nat.{ℕ, _^_, _<_}
 use mathlib.Core.Path.{_≡_}
+use mathlib.Core.Logic.{_≢_}
 use mathlib.Core.Bool.{true}
 use mathlib.Core.List.{List, [], _∷_, _++_, map}
 use lib.ListN.{replicate}
@@ -8,7 +9,7 @@ use Rattle.format.specs.Refusals.{value, refused}
 use Rattle.frame.specs.Claims.{Bytes}
 use Rattle.watch.specs.declared.Watch.{Watch}
 use Rattle.watch.specs.Runs.{Call, answers, run, setsA, setsB, latestTime}
-use Rattle.watch_bytes.specs.States.{WatchBytesAfter, stateBytes, watchIn, isState, renew, hearing, checking}
+use Rattle.watch_bytes.specs.States.{WatchBytesAfter, stateBytes, watchIn, isState, notState, renew, hearing, checking}
 use Rattle.watch_bytes.specs.Runs.{asNumber, Fit, AllFit, Chained, answersGiven, lastOf}
 
 -- the bytes of a watch, read back, are the watch: its times are numbers of 32 bits
@@ -22,6 +23,12 @@ WrittenIsState = (watch : Watch) → isState (stateBytes watch) ≡ true
 -- bytes of a watch, read and written again, are those bytes
 unfoldable pub WrittenBack : Type 0
 WrittenBack = (state : List ℕ) → Bytes state → isState state ≡ true → stateBytes (watchIn state) ≡ state
+
+-- bytes that no watch writes are refused as 21, and stay
+unfoldable pub NoWatches : Type 0
+NoWatches =
+    (state : List ℕ) → Bytes state → ((watch : Watch) → stateBytes watch ≢ state) → (bus time : ℕ)
+    → (hearing state bus time ≡ notState state) × (checking state time ≡ notState state)
 
 -- Document 01, "Refusal numbers": "Nothing is written and the state handed back is the one handed in"
 unfoldable pub RefusedKeeps : Type 0

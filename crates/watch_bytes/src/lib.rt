@@ -114,6 +114,7 @@ pub fn promised()
     ensures read_back { λ _. ⌜ claims.ReadBack ⌝ }
     ensures written_is_state { λ _. ⌜ claims.WrittenIsState ⌝ }
     ensures written_back { λ _. ⌜ claims.WrittenBack ⌝ }
+    ensures no_watches { λ _. ⌜ claims.NoWatches ⌝ }
     ensures refused_keeps { λ _. ⌜ claims.RefusedKeeps ⌝ }
     ensures as_run { λ _. ⌜ claims.AsRun ⌝ }
     ensures last_times { λ _. ⌜ claims.LastTimesOnBytes ⌝ }

@@ -1,4 +1,4 @@
--- `calls::go_on` meets its contract.
+-- `calls_program::go_on` meets its contract.
 use Rattle.calls_program.proofs.Parts.{head-size}
 use Rattle.calls_program.proofs.Working.{gone-ended, gone-whole, gone-more}
 use borrow.Author.Needs.{needs}

@@ -1,4 +1,4 @@
--- `calls::main` meets its contract: what is lent to `serve` is what it asks for.
+-- `calls_program::main` meets its contract: what is lent to `serve` is what it asks for.
 use native.Mathlib.Omega.{arith}
 use mathlib.Core.Path.{refl}
 use borrow.Author.Needs.{needs}

@@ -1,4 +1,4 @@
--- `calls::request_at` meets its contract.
+-- `calls_program::request_at` meets its contract.
 use Rattle.calls_program.proofs.Working.{span-none, span-over, span-in}
 use native.Mathlib.Omega.{arith}
 use borrow.Author.Needs.{needs}

@@ -1,4 +1,4 @@
--- `calls::serve` meets its contract: the turns run out, the lengths stay, and what is held is within the input.
+-- `calls_program::serve` meets its contract: the turns run out, the lengths stay, and what is held is within the input.
 use Prim.Native.Nat.{ℕ, _≤_}
 use lib.ListN.{length, length-replicate}
 use mathlib.Core.Path.{_≡_, ap, _∙_}

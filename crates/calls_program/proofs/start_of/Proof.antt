@@ -1,4 +1,4 @@
--- `calls::start_of` meets its contract.
+-- `calls_program::start_of` meets its contract.
 use Rattle.calls_program.proofs.Working.{start-none, start-in}
 use native.Mathlib.Omega.{arith}
 use borrow.Author.Needs.{needs}

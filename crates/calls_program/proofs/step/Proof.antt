@@ -1,4 +1,4 @@
--- `calls::step` meets its contract.
+-- `calls_program::step` meets its contract.
 use native.Mathlib.Omega.{arith}
 use Rattle.calls_program.specs.Working.{workedOne}
 use Rattle.calls_program.proofs.Working.{start-room, step-done}

@@ -1,4 +1,4 @@
--- `calls::turn` meets its contract.
+-- `calls_program::turn` meets its contract.
 use Rattle.calls_program.proofs.Parts.{head-size}
 use mathlib.Core.Path.{ap}
 use borrow.Author.Needs.{needs}

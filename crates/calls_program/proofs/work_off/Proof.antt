@@ -1,4 +1,4 @@
--- `calls::work_off` meets its contract: the turns run out, and the lengths stay.
+-- `calls_program::work_off` meets its contract: the turns run out, and the lengths stay.
 use Prim.Native.Nat.{_-_}
 use mathlib.Core.Path.{_≡_, refl, sym, ap, _∙_}
 use borrow.Author.Needs.{needs}

@@ -1,4 +1,4 @@
--- `listing::list` is safe and ends: the turns run out, the lengths stay, and what is held is within the input.
+-- `listing_program::list` is safe and ends: the turns run out, the lengths stay, and what is held is within the input.
 use borrow.Author.Needs.{needs}
 use Prim.Native.Nat.{_≤_}
 use mathlib.Core.Path.{_≡_}

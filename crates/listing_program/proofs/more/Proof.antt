@@ -1,4 +1,4 @@
--- `listing::more` meets its contract: what is held stays within the input.
+-- `listing_program::more` meets its contract: what is held stays within the input.
 use native.Mathlib.Omega.{arith}
 use mathlib.Core.Path.{refl}
 use borrow.Author.Needs.{needs}

@@ -1,4 +1,4 @@
--- `listing::turn` meets its contract.
+-- `listing_program::turn` meets its contract.
 use lib.ListN.{length-take}
 use native.Mathlib.Omega.{arith}
 use mathlib.Core.Path.{ap, _∙_}

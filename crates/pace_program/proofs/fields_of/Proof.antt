@@ -1,4 +1,4 @@
--- `pace::fields_of` meets its contract: by the two formats.
+-- `pace_program::fields_of` meets its contract: by the two formats.
 use mathlib.Core.Path.{refl, sym}
 use Rattle.format.specs.Formats.{inRange}
 use Rattle.format.proofs.Tests.{from-each}

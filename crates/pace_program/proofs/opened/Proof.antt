@@ -1,4 +1,4 @@
--- `pace::opened` is safe and ends: the streams left to open run out.
+-- `pace_program::opened` is safe and ends: the streams left to open run out.
 use borrow.Author.Needs.{needs}
 use Prim.Native.Nat.{_≤_, _-_}
 use Rattle.pace_program.proofs.opened.Statement.{statement}

@@ -1,4 +1,4 @@
--- `pace::receive_all` meets its contract: each turn gives one packet at most, and the image stands at 0 or within 16.
+-- `pace_program::receive_all` meets its contract: each turn gives one packet at most, and the image stands at 0 or within 16.
 use borrow.Author.Needs.{needs}
 use Prim.Native.Nat.{_≤_, _-_}
 use mathlib.Core.Path.{_≡_}

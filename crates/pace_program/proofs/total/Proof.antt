@@ -1,4 +1,4 @@
--- `pace::total` meets its contract: at most 255 for each byte passed.
+-- `pace_program::total` meets its contract: at most 255 for each byte passed.
 use borrow.Author.Needs.{needs}
 use Prim.Native.Nat.{_≤_, _*_, _-_}
 use lib.ListN.{length}

@@ -1,4 +1,4 @@
--- `calls::bench::change_desk` meets its contract.
+-- `calls_program::bench::change_desk` meets its contract.
 use Rattle.calls_program.specs.Benches.{deskDone}
 use borrow.Author.Tests.{lt-ltb, le-ltb}
 use mathlib.Core.Path.{sym}

@@ -1,4 +1,4 @@
--- `calls::bench::change_other` meets its contract.
+-- `calls_program::bench::change_other` meets its contract.
 use Rattle.calls_program.specs.Benches.{otherDone}
 use borrow.Author.Tests.{lt-ltb, le-ltb}
 use borrow.Author.Needs.{needs}

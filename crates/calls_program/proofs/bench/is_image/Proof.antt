@@ -1,4 +1,4 @@
--- `calls::bench::is_image` meets its contract.
+-- `calls_program::bench::is_image` meets its contract.
 use Rattle.format.specs.Tests.{allTrue, allAfter}
 use Rattle.calls_program.specs.Benches.{isImage}
 use borrow.Author.Tests.{ne-eqb}

@@ -1,4 +1,4 @@
--- `calls::bench::new` meets its contract.
+-- `calls_program::bench::new` meets its contract.
 use borrow.Author.Needs.{needs}
 use Rattle.calls_program.proofs.bench.new.Statement.{statement}
 use Rattle.calls_program.proofs.bench.new.Tie as tie

@@ -1,4 +1,4 @@
--- `calls::bench::respond` meets its contract.
+-- `calls_program::bench::respond` meets its contract.
 use mathlib.Core.Path.{sym}
 use native.Mathlib.Omega.{arith}
 use Rattle.calls_program.proofs.Benches.{empty, no-request, a-request}

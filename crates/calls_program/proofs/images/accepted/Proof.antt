@@ -1,4 +1,4 @@
--- `calls::images::accepted` meets its contract: the loop's invariant keeps the length, and says what is left to write.
+-- `calls_program::images::accepted` meets its contract: the loop's invariant keeps the length, and says what is left to write.
 use borrow.Author.Needs.{needs}
 use Prim.Native.Nat.{ℕ, suc, _+_, _-_, _≤_}
 use mathlib.Core.Path.{_≡_, refl, ap}

@@ -1,4 +1,4 @@
--- `calls::images::accepts` meets its contract.
+-- `calls_program::images::accepts` meets its contract.
 use borrow.Author.Needs.{needs}
 use Rattle.calls_program.proofs.images.accepts.Statement.{statement}
 use Rattle.calls_program.proofs.images.accepts.Tie as tie

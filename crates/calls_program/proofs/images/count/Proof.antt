@@ -1,4 +1,4 @@
--- `calls::images::count` meets its contract.
+-- `calls_program::images::count` meets its contract.
 use borrow.Author.Needs.{needs}
 use Rattle.calls_program.proofs.images.count.Statement.{statement}
 use Rattle.calls_program.proofs.images.count.Tie as tie

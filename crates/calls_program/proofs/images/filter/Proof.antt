@@ -1,4 +1,4 @@
--- `calls::images::filter` meets its contract.
+-- `calls_program::images::filter` meets its contract.
 use mathlib.Core.Path.{sym}
 use Rattle.calls_program.specs.Images.{filterDone}
 use borrow.Author.Needs.{needs}

@@ -1,4 +1,4 @@
--- `calls::images::judge` meets its contract.
+-- `calls_program::images::judge` meets its contract.
 use mathlib.Core.Path.{refl}
 use Rattle.calls_program.specs.Images.{judgeDone}
 use borrow.Author.Needs.{needs}

@@ -1,4 +1,4 @@
--- `calls::images::line` meets its contract.
+-- `calls_program::images::line` meets its contract.
 use mathlib.Core.Path.{sym}
 use borrow.Author.Tests.{lt-ltb, le-ltb}
 use Rattle.trace.specs.Lines.{writing}

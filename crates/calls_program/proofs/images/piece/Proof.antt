@@ -1,4 +1,4 @@
--- `calls::images::piece` meets its contract.
+-- `calls_program::images::piece` meets its contract.
 use mathlib.Core.Path.{sym}
 use borrow.Author.Tests.{lt-ltb, le-ltb}
 use Rattle.calls_program.specs.Images.{pieceIn, pieceDone}

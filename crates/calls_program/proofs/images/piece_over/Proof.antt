@@ -1,4 +1,4 @@
--- `calls::images::piece_over` meets its contract: the call gets the output that was filled.
+-- `calls_program::images::piece_over` meets its contract: the call gets the output that was filled.
 use mathlib.Core.Path.{refl}
 use lib.ListN.{length-replicate}
 use Rattle.calls_program.specs.Images.{pieceIn}

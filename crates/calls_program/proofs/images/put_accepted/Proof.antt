@@ -1,4 +1,4 @@
--- `calls::images::put_accepted` meets its contract.
+-- `calls_program::images::put_accepted` meets its contract.
 use Prim.Native.Nat.{_-_}
 use mathlib.Core.Path.{_≡_, refl, sym, ap, _∙_}
 use native.Mathlib.Omega.{arith}

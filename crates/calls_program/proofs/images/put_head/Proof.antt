@@ -1,4 +1,4 @@
--- `calls::images::put_head` meets its contract.
+-- `calls_program::images::put_head` meets its contract.
 use Rattle.calls_program.specs.Images.{withFrame}
 use borrow.Author.Needs.{needs}
 use Rattle.calls_program.proofs.images.put_head.Statement.{statement}

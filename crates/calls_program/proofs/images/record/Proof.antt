@@ -1,4 +1,4 @@
--- `calls::images::record` meets its contract.
+-- `calls_program::images::record` meets its contract.
 use mathlib.Core.Path.{sym}
 use borrow.Author.Needs.{needs}
 use Rattle.calls_program.proofs.images.record.Statement.{statement}

@@ -1,4 +1,4 @@
--- `calls::images::refusal` meets its contract.
+-- `calls_program::images::refusal` meets its contract.
 use borrow.Author.Needs.{needs}
 use Rattle.calls_program.proofs.images.refusal.Statement.{statement}
 use Rattle.calls_program.proofs.images.refusal.Tie as tie

@@ -1,4 +1,4 @@
--- `calls::images::respond` meets its contract.
+-- `calls_program::images::respond` meets its contract.
 use mathlib.Core.Path.{refl}
 use borrow.Author.Tests.{ne-eqb}
 use Rattle.calls_program.specs.Images.{imageDone}

@@ -1,4 +1,4 @@
--- `calls::images::row` meets its contract.
+-- `calls_program::images::row` meets its contract.
 use Rattle.calls_program.specs.Images.{rowDone}
 use borrow.Author.Needs.{needs}
 use Rattle.calls_program.proofs.images.row.Statement.{statement}

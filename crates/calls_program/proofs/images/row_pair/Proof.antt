@@ -1,4 +1,4 @@
--- `calls::images::row_pair` meets its contract.
+-- `calls_program::images::row_pair` meets its contract.
 use Rattle.filter.specs.Filters.{rowPair}
 use borrow.Author.Needs.{needs}
 use Rattle.calls_program.proofs.images.row_pair.Statement.{statement}

@@ -1,4 +1,4 @@
--- `calls::listings::count` meets its contract.
+-- `calls_program::listings::count` meets its contract.
 use borrow.Author.Needs.{needs}
 use Rattle.calls_program.proofs.listings.count.Statement.{statement}
 use Rattle.calls_program.proofs.listings.count.Tie as tie

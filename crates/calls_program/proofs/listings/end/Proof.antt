@@ -1,4 +1,4 @@
--- `calls::listings::end` meets its contract.
+-- `calls_program::listings::end` meets its contract.
 use Rattle.calls_program.specs.Responses.{number8Bytes}
 use Rattle.calls_program.specs.Desks.{listingOf}
 use Rattle.lister.specs.Listing.{ending}

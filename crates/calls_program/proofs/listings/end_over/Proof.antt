@@ -1,4 +1,4 @@
--- `calls::listings::end_over` meets its contract: the call gets the desk's listing and the output that was filled.
+-- `calls_program::listings::end_over` meets its contract: the call gets the desk's listing and the output that was filled.
 use mathlib.Core.Path.{refl}
 use lib.ListN.{length-replicate}
 use borrow.Author.Needs.{needs}

@@ -1,4 +1,4 @@
--- `calls::listings::list` meets its contract.
+-- `calls_program::listings::list` meets its contract.
 use Rattle.calls_program.proofs.Desks.{list-done}
 use mathlib.Core.Path.{sym}
 use borrow.Author.Tests.{lt-ltb}

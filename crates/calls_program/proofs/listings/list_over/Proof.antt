@@ -1,4 +1,4 @@
--- `calls::listings::list_over` meets its contract: the call gets the desk's listing and the output that was filled.
+-- `calls_program::listings::list_over` meets its contract: the call gets the desk's listing and the output that was filled.
 use mathlib.Core.Path.{refl}
 use borrow.Author.Needs.{needs}
 use Rattle.calls_program.proofs.listings.list_over.Statement.{statement}

@@ -1,4 +1,4 @@
--- `calls::listings::put_listed` meets its contract.
+-- `calls_program::listings::put_listed` meets its contract.
 use borrow.Author.Needs.{needs}
 use Rattle.calls_program.proofs.listings.put_listed.Statement.{statement}
 use Rattle.calls_program.proofs.listings.put_listed.Tie as tie

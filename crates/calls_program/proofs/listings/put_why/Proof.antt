@@ -1,4 +1,4 @@
--- `calls::listings::put_why` meets its contract.
+-- `calls_program::listings::put_why` meets its contract.
 use borrow.Author.Needs.{needs}
 use Rattle.calls_program.proofs.listings.put_why.Statement.{statement}
 use Rattle.calls_program.proofs.listings.put_why.Tie as tie

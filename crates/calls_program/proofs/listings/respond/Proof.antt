@@ -1,4 +1,4 @@
--- `calls::listings::respond` meets its contract.
+-- `calls_program::listings::respond` meets its contract.
 use Rattle.calls_program.specs.Desks.{listingDone}
 use borrow.Author.Tests.{ne-eqb}
 use borrow.Author.Needs.{needs}

@@ -1,4 +1,4 @@
--- `calls::listings::set` meets its contract.
+-- `calls_program::listings::set` meets its contract.
 use borrow.Author.Needs.{needs}
 use Rattle.calls_program.proofs.listings.set.Statement.{statement}
 use Rattle.calls_program.proofs.listings.set.Tie as tie

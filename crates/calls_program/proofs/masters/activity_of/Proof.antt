@@ -1,4 +1,4 @@
--- `calls::masters::activity_of` meets its contract.
+-- `calls_program::masters::activity_of` meets its contract.
 use borrow.Author.Tests.{eq-eqb, ne-eqb}
 use Rattle.calls_program.specs.Requests.{activityNamed}
 use borrow.Author.Needs.{needs}

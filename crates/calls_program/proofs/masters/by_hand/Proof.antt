@@ -1,4 +1,4 @@
--- `calls::masters::by_hand` meets its contract.
+-- `calls_program::masters::by_hand` meets its contract.
 use Rattle.calls_program.specs.Requests.{masterNamed}
 use borrow.Author.Needs.{needs}
 use Rattle.calls_program.proofs.masters.by_hand.Statement.{statement}

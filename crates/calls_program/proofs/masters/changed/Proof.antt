@@ -1,4 +1,4 @@
--- `calls::masters::changed` meets its contract.
+-- `calls_program::masters::changed` meets its contract.
 use Rattle.calls_program.specs.Responses.{outWithMaster}
 use borrow.Author.Needs.{needs}
 use Rattle.calls_program.proofs.masters.changed.Statement.{statement}

@@ -1,4 +1,4 @@
--- `calls::masters::moved` meets its contract.
+-- `calls_program::masters::moved` meets its contract.
 use borrow.Author.Needs.{needs}
 use Rattle.calls_program.proofs.masters.moved.Statement.{statement}
 use Rattle.calls_program.proofs.masters.moved.Tie as tie

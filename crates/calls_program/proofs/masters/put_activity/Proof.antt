@@ -1,4 +1,4 @@
--- `calls::masters::put_activity` meets its contract.
+-- `calls_program::masters::put_activity` meets its contract.
 use borrow.Author.Needs.{needs}
 use Rattle.calls_program.proofs.masters.put_activity.Statement.{statement}
 use Rattle.calls_program.proofs.masters.put_activity.Tie as tie

@@ -1,4 +1,4 @@
--- `calls::masters::put_moved` meets its contract.
+-- `calls_program::masters::put_moved` meets its contract.
 use borrow.Author.Needs.{needs}
 use Rattle.calls_program.proofs.masters.put_moved.Statement.{statement}
 use Rattle.calls_program.proofs.masters.put_moved.Tie as tie

@@ -1,4 +1,4 @@
--- `calls::masters::respond` meets its contract.
+-- `calls_program::masters::respond` meets its contract.
 use mathlib.Core.Path.{sym}
 use borrow.Author.Tests.{ne-eqb}
 use Rattle.calls_program.specs.Operations.{masterDone}

@@ -1,4 +1,4 @@
--- `calls::masters::set` meets its contract.
+-- `calls_program::masters::set` meets its contract.
 use borrow.Author.Needs.{needs}
 use Rattle.calls_program.proofs.masters.set.Statement.{statement}
 use Rattle.calls_program.proofs.masters.set.Tie as tie

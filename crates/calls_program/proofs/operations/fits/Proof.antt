@@ -1,4 +1,4 @@
--- `calls::operations::fits` meets its contract: an arm is a rule, and an operation without one is in none of them.
+-- `calls_program::operations::fits` meets its contract: an arm is a rule, and an operation without one is in none of them.
 use Prim.Native.Nat.{ℕ}
 use mathlib.Core.Path.{_≡_, refl}
 use mathlib.Core.List.{[], _∷_}

@@ -1,4 +1,4 @@
--- `calls::operations::is_request` meets its contract.
+-- `calls_program::operations::is_request` meets its contract.
 use Rattle.format.specs.Tests.{allTrue, allAfter}
 use Rattle.calls_program.specs.Operations.{isRequest}
 use borrow.Author.Needs.{needs}

@@ -1,4 +1,4 @@
--- `calls::operations::within_others` meets its contract: an arm is a rule, and an operation without one is in none of them.
+-- `calls_program::operations::within_others` meets its contract: an arm is a rule, and an operation without one is in none of them.
 use mathlib.Core.List.{[], _∷_}
 use Rattle.format.specs.Tests.{allTrue, allAfter}
 use Rattle.calls_program.proofs.Rules.{not-among}
@@ -10,14 +10,20 @@ use Rattle.calls_program.proofs.operations.within_others.Tie as tie
 byte-requires : tie.Need-byte-requires
 byte-requires c κs = search needs
 
-byte-requires-2 : tie.Need-byte-requires-2
-byte-requires-2 c κs = search needs
+refusal-of-requires : tie.Need-refusal-of-requires
+refusal-of-requires c κs = search needs
 
 number-requires : tie.Need-number-requires
 number-requires c κs = search needs
 
+byte-requires-2 : tie.Need-byte-requires-2
+byte-requires-2 c κs = search needs
+
 number-requires-2 : tie.Need-number-requires-2
 number-requires-2 c κs = search needs
+
+number-requires-3 : tie.Need-number-requires-3
+number-requires-3 c κs = search needs
 
 byte-requires-3 : tie.Need-byte-requires-3
 byte-requires-3 c κs = search needs
@@ -25,11 +31,11 @@ byte-requires-3 c κs = search needs
 byte-requires-4 : tie.Need-byte-requires-4
 byte-requires-4 c κs = search needs
 
-number-requires-3 : tie.Need-number-requires-3
-number-requires-3 c κs = search needs
-
 number-requires-4 : tie.Need-number-requires-4
 number-requires-4 c κs = search needs
+
+number-requires-5 : tie.Need-number-requires-5
+number-requires-5 c κs = search needs
 
 byte-requires-5 : tie.Need-byte-requires-5
 byte-requires-5 c κs = search needs
@@ -45,15 +51,15 @@ byte-requires-8 c κs = search needs
 
 returns : tie.Need-returns
 unfolding otherArgs ruled among allTrue allAfter
-returns c = simp (c .before .before .match .keys1, c .byte2 .ensures, c .before .byte .ensures)
+returns c = simp (c .before .before .before .before .match .keys1, c .byte2 .ensures, c .before .number .ensures, c .before .before .refusal-of .ensures, c .before .before .before .byte .ensures)
 
 returns-2 : tie.Need-returns-2
 unfolding otherArgs ruled among allTrue allAfter
-returns-2 c = simp (c .before .match .keys2, c .number .ensures .1)
+returns-2 c = simp (c .before .match .keys2, c .number2 .ensures .1)
 
 returns-3 : tie.Need-returns-3
 unfolding otherArgs ruled among allTrue allAfter
-returns-3 c = simp (c .before .match .keys3, c .number2 .ensures .1)
+returns-3 c = simp (c .before .match .keys3, c .number3 .ensures .1)
 
 returns-4 : tie.Need-returns-4
 unfolding otherArgs ruled among allTrue allAfter
@@ -61,11 +67,11 @@ returns-4 c = simp (c .before .before .match .keys4, c .byte4 .ensures, c .befor
 
 returns-5 : tie.Need-returns-5
 unfolding otherArgs ruled among allTrue allAfter
-returns-5 c = simp (c .before .match .keys5, c .number3 .ensures .1)
+returns-5 c = simp (c .before .match .keys5, c .number4 .ensures .1)
 
 returns-6 : tie.Need-returns-6
 unfolding otherArgs ruled among allTrue allAfter
-returns-6 c = simp (c .before .match .keys6, c .number4 .ensures .1)
+returns-6 c = simp (c .before .match .keys6, c .number5 .ensures .1)
 
 returns-7 : tie.Need-returns-7
 unfolding otherArgs ruled among allTrue allAfter
@@ -84,13 +90,15 @@ within-others-spec =
     tie.close
     (tie.spec
     byte-requires
-    byte-requires-2
+    refusal-of-requires
     number-requires
+    byte-requires-2
     number-requires-2
+    number-requires-3
     byte-requires-3
     byte-requires-4
-    number-requires-3
     number-requires-4
+    number-requires-5
     byte-requires-5
     byte-requires-6
     byte-requires-7

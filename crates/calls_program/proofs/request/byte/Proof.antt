@@ -1,4 +1,4 @@
--- `calls::request::byte` meets its contract: past the end there is nothing but the 0 that it answers.
+-- `calls_program::request::byte` meets its contract: past the end there is nothing but the 0 that it answers.
 use mathlib.Core.Path.{sym}
 use lib.ListN.{List·getD-eq-default}
 use borrow.Author.Needs.{needs}

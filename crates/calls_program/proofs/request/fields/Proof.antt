@@ -1,4 +1,4 @@
--- `calls::request::fields` meets its contract.
+-- `calls_program::request::fields` meets its contract.
 use Rattle.calls_program.specs.Requests.{fieldsAt}
 use borrow.Author.Needs.{needs}
 use Rattle.calls_program.proofs.request.fields.Statement.{statement}

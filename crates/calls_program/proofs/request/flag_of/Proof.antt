@@ -1,4 +1,4 @@
--- `calls::request::flag_of` meets its contract.
+-- `calls_program::request::flag_of` meets its contract.
 use borrow.Author.Tests.{ne-eqb}
 use Rattle.frame.specs.Layout.{flagOf}
 use Rattle.calls_program.proofs.request.flag_of.Statement.{statement}

@@ -1,4 +1,4 @@
--- `calls::request::format_of` meets its contract.
+-- `calls_program::request::format_of` meets its contract.
 use borrow.Author.Tests.{eq-eqb, ne-eqb}
 use Rattle.calls_program.specs.Requests.{formatNamed}
 use Rattle.calls_program.proofs.request.format_of.Statement.{statement}

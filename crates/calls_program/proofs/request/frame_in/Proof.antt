@@ -1,4 +1,4 @@
--- `calls::request::frame_in` meets its contract.
+-- `calls_program::request::frame_in` meets its contract.
 use Rattle.calls_program.specs.Requests.{frameOfLine}
 use borrow.Author.Needs.{needs}
 use Rattle.calls_program.proofs.request.frame_in.Statement.{statement}

@@ -1,4 +1,4 @@
--- `calls::request::key` meets its contract.
+-- `calls_program::request::key` meets its contract.
 use Rattle.calls_program.specs.Requests.{keyAt}
 use borrow.Author.Needs.{needs}
 use Rattle.calls_program.proofs.request.key.Statement.{statement}

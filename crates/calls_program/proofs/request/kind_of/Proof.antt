@@ -1,4 +1,4 @@
--- `calls::request::kind_of` meets its contract.
+-- `calls_program::request::kind_of` meets its contract.
 use borrow.Author.Tests.{ne-eqb}
 use Rattle.calls_program.specs.Requests.{kindNamed}
 use Rattle.calls_program.proofs.request.kind_of.Statement.{statement}

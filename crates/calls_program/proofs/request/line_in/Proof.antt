@@ -1,4 +1,4 @@
--- `calls::request::line_in` meets its contract.
+-- `calls_program::request::line_in` meets its contract.
 use mathlib.Core.Path.{sym}
 use borrow.Author.Tests.{ne-eqb}
 use Rattle.calls_program.specs.Requests.{lineOf}

@@ -1,4 +1,4 @@
--- `calls::request::long` meets its contract.
+-- `calls_program::request::long` meets its contract.
 use Rattle.calls_program.specs.Requests.{number8At}
 use borrow.Author.Needs.{needs}
 use Rattle.calls_program.proofs.request.long.Statement.{statement}

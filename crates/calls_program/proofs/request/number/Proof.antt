@@ -1,4 +1,4 @@
--- `calls::request::number` meets its contract: past the end both of its bytes are 0.
+-- `calls_program::request::number` meets its contract: past the end both of its bytes are 0.
 use Prim.Native.Nat.{_+_}
 use mathlib.Core.List.{List}
 use native.Mathlib.Omega.{arith}

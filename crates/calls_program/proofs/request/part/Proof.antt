@@ -1,4 +1,4 @@
--- `calls::request::part` meets its contract: where the second place comes first, no byte is between them.
+-- `calls_program::request::part` meets its contract: where the second place comes first, no byte is between them.
 use Prim.Native.Nat.{_-_}
 use mathlib.Core.Path.{_≡_}
 use native.Mathlib.Omega.{arith}

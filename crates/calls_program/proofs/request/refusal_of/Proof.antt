@@ -1,26 +1,25 @@
--- `calls::request::refusal_of` meets its contract.
-use Prim.Native.Nat.{ℕ, zero, suc, _≤_}
+-- `calls_program::request::refusal_of` meets its contract.
+use Prim.Native.Nat.{ℕ}
 use mathlib.Core.Path.{_≡_, refl, sym}
-use native.Mathlib.Omega.{arith}
-use lib.ListN.{List·getD-eq-default}
+use borrow.Author.Tests.{ne-eqb}
 use Rattle.format.specs.declared.Refusal.the-variants as refusal
-use Rattle.calls_program.specs.Requests.{refusalTable, refusalNamed}
+use mathlib.Core.List.{List, [], _∷_}
+use Rattle.format.specs.declared.Refusal.{Refusal}
+use Rattle.format.specs.Refusals.{number}
+use Rattle.calls_program.specs.Requests.{refusalTable, namedIn, refusalNamed}
 use Rattle.calls_program.proofs.request.refusal_of.Statement.{statement}
 use Rattle.calls_program.proofs.request.refusal_of.Tie as tie
 
--- a place that is none of 1 to n is over n, unless it is 0
-abbrev Apart : (n place : ℕ) → Type 0
-Apart zero place = Unit {0}
-Apart (suc n) place = Apart n place × (place ≡ suc n → ⊥)
+-- a number that is none of those of the list, one after the other
+abbrev Apart : List Refusal → (n : ℕ) → Type 0 → Type 0
+Apart [] n before = before
+Apart (name ∷ names) n before = Apart names n (before × (n ≡ number name → ⊥))
 
-over : (n place : ℕ) → Apart n place → 1 ≤ place → suc n ≤ place
-over zero place none h = h
-over (suc n) place (apart, not-last) h = let below = over n place apart h in omega (arith, below, not-last)
-
-others : (place : ℕ) → (1 ≤ place → 21 ≤ place) → refusal.State ≡ refusalNamed place
-unfolding refusalNamed
-others zero h = refl
-others (suc n) h = sym (List·getD-eq-default refusalTable refusal.State (h (omega arith)))
+others : (names : List Refusal) (n : ℕ) {before : Type 0} → Apart names n before → (refusal.State ≡ namedIn names n) × before
+others [] n known = (refl, known)
+others (name ∷ names) n known =
+    let rest = others names n known in
+    (rw (ne-eqb (number name) n (λ e. rest .1 .1 (sym e))) (rest .0), rest .1 .0)
 
 returns : tie.Need-returns
 unfolding refusalNamed
@@ -103,7 +102,8 @@ unfolding refusalNamed
 returns-20 c = simp (c .match .keys20)
 
 returns-21 : tie.Need-returns-21
-returns-21 c = others _ (over 20 _ (c .match .rest))
+unfolding refusalNamed
+returns-21 c = others refusalTable (c .before .args .number) (c .match .rest) .0
 
 pub refusal-of-spec : {M : Type 1} → statement M
 refusal-of-spec =

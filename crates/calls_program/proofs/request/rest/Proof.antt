@@ -1,4 +1,4 @@
--- `calls::request::rest` meets its contract: of the bytes from a place on, all are taken.
+-- `calls_program::request::rest` meets its contract: of the bytes from a place on, all are taken.
 use mathlib.Core.Path.{_∙_}
 use borrow.Author.Needs.{needs}
 use borrow.Author.Tests.{le-leb}

@@ -1,4 +1,4 @@
--- `calls::request::word` meets its contract.
+-- `calls_program::request::word` meets its contract.
 use Rattle.calls_program.specs.Requests.{number4At}
 use borrow.Author.Needs.{needs}
 use Rattle.calls_program.proofs.request.word.Statement.{statement}

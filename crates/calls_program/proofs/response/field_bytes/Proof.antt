@@ -1,4 +1,4 @@
--- `calls::response::field_bytes` meets its contract.
+-- `calls_program::response::field_bytes` meets its contract.
 use borrow.Author.Needs.{needs}
 use Rattle.calls_program.proofs.response.field_bytes.Statement.{statement}
 use Rattle.calls_program.proofs.response.field_bytes.Tie as tie

@@ -1,4 +1,4 @@
--- `calls::response::fill` meets its contract: the loop's invariant keeps the length, with a step of 0 the byte, and what is left to write makes the bytes that are to be.
+-- `calls_program::response::fill` meets its contract: the loop's invariant keeps the length, with a step of 0 the byte, and what is left to write makes the bytes that are to be.
 use borrow.Author.Needs.{needs}
 use Prim.Native.Nat.{ℕ, suc, _+_, _-_, _≤_, _<_}
 use mathlib.Core.Path.{_≡_, refl, sym, ap, _∙_}

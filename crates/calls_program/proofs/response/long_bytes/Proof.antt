@@ -1,4 +1,4 @@
--- `calls::response::long_bytes` meets its contract.
+-- `calls_program::response::long_bytes` meets its contract.
 use Rattle.calls_program.specs.Responses.{number8Bytes, number4Bytes}
 use borrow.Author.Needs.{needs}
 use Rattle.calls_program.proofs.response.long_bytes.Statement.{statement}

@@ -1,4 +1,4 @@
--- `calls::response::number_bytes` meets its contract.
+-- `calls_program::response::number_bytes` meets its contract.
 use Rattle.calls_program.specs.Responses.{number2Bytes}
 use borrow.Author.Needs.{needs}
 use Rattle.calls_program.proofs.response.number_bytes.Statement.{statement}

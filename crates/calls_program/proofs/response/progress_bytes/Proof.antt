@@ -1,4 +1,4 @@
--- `calls::response::progress_bytes` meets its contract.
+-- `calls_program::response::progress_bytes` meets its contract.
 use borrow.Author.Needs.{needs}
 use Rattle.calls_program.proofs.response.progress_bytes.Statement.{statement}
 use Rattle.calls_program.proofs.response.progress_bytes.Tie as tie

@@ -1,4 +1,4 @@
--- `calls::response::put_answer` meets its contract.
+-- `calls_program::response::put_answer` meets its contract.
 use Rattle.calls_program.specs.Responses.{answerBytes, number2Bytes}
 use borrow.Author.Needs.{needs}
 use Rattle.calls_program.proofs.response.put_answer.Statement.{statement}

@@ -1,4 +1,4 @@
--- `calls::response::put_fields` meets its contract.
+-- `calls_program::response::put_fields` meets its contract.
 use borrow.Author.Needs.{needs}
 use Rattle.calls_program.proofs.response.put_fields.Statement.{statement}
 use Rattle.calls_program.proofs.response.put_fields.Tie as tie

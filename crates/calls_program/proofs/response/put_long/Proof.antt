@@ -1,4 +1,4 @@
--- `calls::response::put_long` meets its contract.
+-- `calls_program::response::put_long` meets its contract.
 use borrow.Author.Needs.{needs}
 use Rattle.calls_program.proofs.response.put_long.Statement.{statement}
 use Rattle.calls_program.proofs.response.put_long.Tie as tie

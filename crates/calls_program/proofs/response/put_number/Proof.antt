@@ -1,4 +1,4 @@
--- `calls::response::put_number` meets its contract.
+-- `calls_program::response::put_number` meets its contract.
 use borrow.Author.Needs.{needs}
 use Rattle.calls_program.proofs.response.put_number.Statement.{statement}
 use Rattle.calls_program.proofs.response.put_number.Tie as tie

@@ -1,4 +1,4 @@
--- `calls::response::put_outcome` meets its contract.
+-- `calls_program::response::put_outcome` meets its contract.
 use borrow.Author.Needs.{needs}
 use Rattle.calls_program.proofs.response.put_outcome.Statement.{statement}
 use Rattle.calls_program.proofs.response.put_outcome.Tie as tie

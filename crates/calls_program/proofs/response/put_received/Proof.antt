@@ -1,4 +1,4 @@
--- `calls::response::put_received` meets its contract.
+-- `calls_program::response::put_received` meets its contract.
 use borrow.Author.Needs.{needs}
 use Rattle.calls_program.proofs.response.put_received.Statement.{statement}
 use Rattle.calls_program.proofs.response.put_received.Tie as tie

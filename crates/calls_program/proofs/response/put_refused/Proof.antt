@@ -1,4 +1,4 @@
--- `calls::response::put_refused` meets its contract.
+-- `calls_program::response::put_refused` meets its contract.
 use borrow.Author.Needs.{needs}
 use Rattle.calls_program.proofs.response.put_refused.Statement.{statement}
 use Rattle.calls_program.proofs.response.put_refused.Tie as tie

@@ -1,4 +1,4 @@
--- `calls::response::put_slot` meets its contract.
+-- `calls_program::response::put_slot` meets its contract.
 use borrow.Author.Needs.{needs}
 use Rattle.calls_program.proofs.response.put_slot.Statement.{statement}
 use Rattle.calls_program.proofs.response.put_slot.Tie as tie

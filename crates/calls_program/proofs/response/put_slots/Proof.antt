@@ -1,4 +1,4 @@
--- `calls::response::put_slots` meets its contract: what is left to write, after i slots, makes the output that is to be.
+-- `calls_program::response::put_slots` meets its contract: what is left to write, after i slots, makes the output that is to be.
 use borrow.Author.Needs.{needs}
 use Prim.Native.Nat.{ℕ, _+_, _-_, _*_, _≤_, _<_}
 use mathlib.Core.Path.{_≡_, refl, sym, _∙_}

@@ -1,4 +1,4 @@
--- `calls::response::put_word` meets its contract.
+-- `calls_program::response::put_word` meets its contract.
 use borrow.Author.Needs.{needs}
 use Rattle.calls_program.proofs.response.put_word.Statement.{statement}
 use Rattle.calls_program.proofs.response.put_word.Tie as tie

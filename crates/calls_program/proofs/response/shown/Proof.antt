@@ -1,4 +1,4 @@
--- `calls::response::shown` meets its contract.
+-- `calls_program::response::shown` meets its contract.
 use borrow.Author.Tests.{le-leb, le-ltb, lt-leb, lt-ltb}
 use Rattle.calls_program.specs.Responses.{capped}
 use borrow.Author.Needs.{needs}

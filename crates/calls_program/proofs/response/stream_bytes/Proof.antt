@@ -1,4 +1,4 @@
--- `calls::response::stream_bytes` meets its contract.
+-- `calls_program::response::stream_bytes` meets its contract.
 use Prim.Native.Nat.{ℕ}
 use mathlib.Core.Path.{_≡_, refl}
 use mathlib.Core.List.{[], _∷_, _++_}

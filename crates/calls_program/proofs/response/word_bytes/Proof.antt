@@ -1,4 +1,4 @@
--- `calls::response::word_bytes` meets its contract.
+-- `calls_program::response::word_bytes` meets its contract.
 use mathlib.Core.Path.{refl}
 use Rattle.calls_program.specs.Responses.{number4Bytes}
 use borrow.Author.Needs.{needs}

@@ -1,4 +1,4 @@
--- `calls::stations::ask` meets its contract.
+-- `calls_program::stations::ask` meets its contract.
 use Rattle.calls_program.specs.Desks.{keepingDone}
 use borrow.Author.Tests.{ne-eqb}
 use borrow.Author.Needs.{needs}

@@ -1,4 +1,4 @@
--- `calls::stations::close` meets its contract.
+-- `calls_program::stations::close` meets its contract.
 use borrow.Author.Needs.{needs}
 use Rattle.calls_program.proofs.stations.close.Statement.{statement}
 use Rattle.calls_program.proofs.stations.close.Tie as tie

@@ -1,4 +1,4 @@
--- `calls::stations::lend` meets its contract.
+-- `calls_program::stations::lend` meets its contract.
 use borrow.Author.Needs.{needs}
 use Rattle.calls_program.proofs.stations.lend.Statement.{statement}
 use Rattle.calls_program.proofs.stations.lend.Tie as tie

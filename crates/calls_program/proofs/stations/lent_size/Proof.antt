@@ -1,4 +1,4 @@
--- `calls::stations::lent_size` meets its contract.
+-- `calls_program::stations::lent_size` meets its contract.
 use Rattle.calls_program.specs.Desks.{lentSize}
 use borrow.Author.Tests.{le-ltb, lt-ltb}
 use native.Mathlib.Omega.{arith}

@@ -1,4 +1,4 @@
--- `calls::stations::new` meets its contract.
+-- `calls_program::stations::new` meets its contract.
 use borrow.Author.Needs.{needs}
 use Rattle.calls_program.proofs.stations.new.Statement.{statement}
 use Rattle.calls_program.proofs.stations.new.Tie as tie

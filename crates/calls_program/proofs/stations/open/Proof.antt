@@ -1,4 +1,4 @@
--- `calls::stations::open` meets its contract.
+-- `calls_program::stations::open` meets its contract.
 use borrow.Author.Needs.{needs}
 use Rattle.calls_program.proofs.stations.open.Statement.{statement}
 use Rattle.calls_program.proofs.stations.open.Tie as tie

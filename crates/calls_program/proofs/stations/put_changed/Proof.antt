@@ -1,4 +1,4 @@
--- `calls::stations::put_changed` meets its contract.
+-- `calls_program::stations::put_changed` meets its contract.
 use borrow.Author.Needs.{needs}
 use Rattle.calls_program.proofs.stations.put_changed.Statement.{statement}
 use Rattle.calls_program.proofs.stations.put_changed.Tie as tie

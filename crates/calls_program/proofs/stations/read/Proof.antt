@@ -1,4 +1,4 @@
--- `calls::stations::read` meets its contract.
+-- `calls_program::stations::read` meets its contract.
 use Rattle.calls_program.proofs.Parts.{head-size}
 use borrow.Author.Needs.{needs}
 use Rattle.calls_program.proofs.stations.read.Statement.{statement}

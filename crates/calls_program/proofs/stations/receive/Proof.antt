@@ -1,4 +1,4 @@
--- `calls::stations::receive` meets its contract.
+-- `calls_program::stations::receive` meets its contract.
 use Rattle.calls_program.proofs.Parts.{head-size}
 use Rattle.calls_program.proofs.Desks.{receive-done}
 use borrow.Author.Needs.{needs}

@@ -1,4 +1,4 @@
--- `calls::stations::refill` meets its contract.
+-- `calls_program::stations::refill` meets its contract.
 use mathlib.Core.Path.{refl}
 use borrow.Author.Needs.{needs}
 use Rattle.calls_program.proofs.stations.refill.Statement.{statement}

@@ -1,4 +1,4 @@
--- `calls::stations::renew` meets its contract.
+-- `calls_program::stations::renew` meets its contract.
 use mathlib.Core.Path.{refl}
 use borrow.Author.Needs.{needs}
 use Rattle.calls_program.proofs.stations.renew.Statement.{statement}

@@ -1,4 +1,4 @@
--- `calls::stations::respond` meets its contract.
+-- `calls_program::stations::respond` meets its contract.
 use Rattle.calls_program.specs.Desks.{stationDone}
 use borrow.Author.Tests.{ne-eqb}
 use borrow.Author.Needs.{needs}

@@ -1,4 +1,4 @@
--- `calls::stations::set_front` meets its contract.
+-- `calls_program::stations::set_front` meets its contract.
 use borrow.Author.Needs.{needs}
 use Rattle.calls_program.proofs.stations.set_front.Statement.{statement}
 use Rattle.calls_program.proofs.stations.set_front.Tie as tie

@@ -1,4 +1,4 @@
--- `calls::stations::set_slot` meets its contract.
+-- `calls_program::stations::set_slot` meets its contract.
 use borrow.Author.Needs.{needs}
 use Rattle.calls_program.proofs.stations.set_slot.Statement.{statement}
 use Rattle.calls_program.proofs.stations.set_slot.Tie as tie

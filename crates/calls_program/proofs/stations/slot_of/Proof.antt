@@ -1,4 +1,4 @@
--- `calls::stations::slot_of` meets its contract.
+-- `calls_program::stations::slot_of` meets its contract.
 use borrow.Author.Tests.{eq-eqb, ne-eqb}
 use Rattle.calls_program.specs.Requests.{slotNamed}
 use Rattle.calls_program.proofs.stations.slot_of.Statement.{statement}

@@ -1,4 +1,4 @@
--- `calls::stations::stored` meets its contract.
+-- `calls_program::stations::stored` meets its contract.
 use borrow.Author.Needs.{needs}
 use Rattle.calls_program.proofs.stations.stored.Statement.{statement}
 use Rattle.calls_program.proofs.stations.stored.Tie as tie

@@ -1,4 +1,4 @@
--- `calls::watches::changed` meets its contract.
+-- `calls_program::watches::changed` meets its contract.
 use Rattle.calls_program.specs.Responses.{outWithWatch}
 use borrow.Author.Needs.{needs}
 use Rattle.calls_program.proofs.watches.changed.Statement.{statement}

@@ -1,4 +1,4 @@
--- `calls::watches::check` meets its contract.
+-- `calls_program::watches::check` meets its contract.
 use borrow.Author.Needs.{needs}
 use Rattle.calls_program.proofs.watches.check.Statement.{statement}
 use Rattle.calls_program.proofs.watches.check.Tie as tie

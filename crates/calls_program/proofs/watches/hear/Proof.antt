@@ -1,4 +1,4 @@
--- `calls::watches::hear` meets its contract.
+-- `calls_program::watches::hear` meets its contract.
 use mathlib.Core.Path.{sym}
 use borrow.Author.Needs.{needs}
 use Rattle.calls_program.proofs.watches.hear.Statement.{statement}

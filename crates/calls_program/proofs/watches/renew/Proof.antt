@@ -1,4 +1,4 @@
--- `calls::watches::renew` meets its contract.
+-- `calls_program::watches::renew` meets its contract.
 use borrow.Author.Needs.{needs}
 use Rattle.calls_program.proofs.watches.renew.Statement.{statement}
 use Rattle.calls_program.proofs.watches.renew.Tie as tie

@@ -1,4 +1,4 @@
--- `calls::watches::resets` meets its contract.
+-- `calls_program::watches::resets` meets its contract.
 use Rattle.calls_program.specs.Responses.{resetsOf}
 use Rattle.calls_program.proofs.watches.resets.Statement.{statement}
 use Rattle.calls_program.proofs.watches.resets.Tie as tie

@@ -1,4 +1,4 @@
--- `calls::watches::respond` meets its contract.
+-- `calls_program::watches::respond` meets its contract.
 use borrow.Author.Tests.{ne-eqb}
 use Rattle.calls_program.specs.Operations.{watchDone}
 use borrow.Author.Needs.{needs}
