@@ -5,6 +5,7 @@ usage: python3 -m unittest test_siljuvatt   (in this folder; SILJUVATT_SO names 
 
 import contextlib
 import copy
+import ctypes
 import doctest
 import itertools
 import mmap
@@ -12,10 +13,10 @@ import os
 import pickle
 import re
 import subprocess
+import symtable
 import sys
 import tempfile
 import threading
-import types
 import unittest
 from pathlib import Path
 from unittest import mock
@@ -29,35 +30,25 @@ from siljuvatt import (
 HERE = Path(__file__).resolve().parent
 SAMPLES = HERE.parent.parent / "samples"
 
-MIDDLE, START, END, SINGLE = range(4)
 BOARD = ExtendedFields(1, 5, 0, 0, 2)
 SLAVE = StandardFields(2, 22, 1)
 KEPT, BROKE = Kept(False), Kept(True)
 
-# Format, fields, packet bytes in a piece that is not the last, and what numbers are taken modulo.
-BOTH = [(Format.EXTENDED, BOARD, 8, 64), (Format.STANDARD, SLAVE, 7, 256)]
+BOTH = [(Format.EXTENDED, BOARD), (Format.STANDARD, SLAVE)]
 LIMITS = {Format.EXTENDED: EXTENDED_LIMIT, Format.STANDARD: STANDARD_LIMIT}
-
-
-def image(fields, flag, number, data):
-    """The image of a piece by the tables, written out by hand and not by the library."""
-    if len(fields) == 5:
-        priority, source, group, destination, function = fields
-        head = [0x80 | len(data), priority << 6 | source, group << 6 | destination, flag << 6 | number, function << 3]
-        return bytes(head) + data
-    priority, address, side = fields
-    data = data if flag == SINGLE else bytes([number]) + data
-    return bytes([priority << 6 | address, side << 7 | flag << 5 | len(data)]) + data
+TOO_LARGE = (-1, 2**32, 2**32 + 1, 2**64, 2**64 + 1)  # for a size: what is over 32 or 64 bits must not wrap
 
 
 def split(fields, packet):
-    """A packet's pieces by document 01's rules on splitting."""
-    if len(packet) <= 8:
-        return [image(fields, SINGLE, 0, packet)]
-    size, modulus = (8, 64) if len(fields) == 5 else (7, 256)
-    parts = [packet[at:at + size] for at in range(0, len(packet), size)]
-    flags = [START] + [MIDDLE] * (len(parts) - 2) + [END]
-    return [image(fields, flag, k % modulus, part) for k, (flag, part) in enumerate(zip(flags, parts))]
+    """A packet's pieces, by the library. Splitting checks them against images that are written out."""
+    format = Format.EXTENDED if len(fields) == 5 else Format.STANDARD
+    return list(pieces(format, fields, packet))
+
+
+def single(fields, packet):
+    """The one piece of a packet that has no more."""
+    [piece] = split(fields, packet)
+    return piece
 
 
 def packet_of(size, seed=0):
@@ -76,10 +67,9 @@ class Case(unittest.TestCase):
         self.assertEqual(station.open(Bus.A, fields), 0)
         return station
 
-    def collect(self, station, fields, size, modulus, count):
-        """The stream starts and is fed this many whole pieces."""
-        for k in range(count):
-            piece = image(fields, MIDDLE if k else START, k % modulus, packet_of(size, k))
+    def keep(self, station, frames):
+        """The stream keeps each of these pieces: none is the last."""
+        for piece in frames:
             self.assertEqual(station.receive(Bus.A, piece), KEPT)
 
     def edited(self, sound, place, byte):
@@ -135,11 +125,15 @@ class Document01(Case):
         images = list(pieces(Format.EXTENDED, BOARD, packet_of(2048)))
         self.assertEqual((len(images), images[64][3], images[255][3]), (256, 0x00, 0xBF))
 
+    def test_byte_2_of_pieces_64_and_255_in_standard(self):
+        images = list(pieces(Format.STANDARD, SLAVE, packet_of(1792)))
+        self.assertEqual((len(images), images[64][2], images[255][2]), (256, 64, 255))
+
     def test_filter_of_groups_1_and_3(self):
         filter = Filter(0x00C0, 0xFFBF)
         row = bytes.fromhex("00 FF C0 BF 00 FF C0 BF")
         for group, source in itertools.product(range(4), range(64)):
-            id = id_of(image(ExtendedFields(1, source, group, 9, 2), SINGLE, 0, b""))
+            id = id_of(single(ExtendedFields(1, source, group, 9, 2), b""))
             self.assertIs(filter.accepts(id), group in (1, 3))
             self.assertIs(row_accepts(row, id), group in (1, 3))
 
@@ -159,20 +153,35 @@ class Document01(Case):
 
 
 class Splitting(Case):
+    def test_images_as_they_are_written_out(self):
+        for fields, packet, images in [
+                (BOARD, b"", ["80 45 00 C0 10"]),
+                (BOARD, b"00412701", ["88 45 00 C0 10 30 30 34 31 32 37 30 31"]),
+                (BOARD, b"0041270190041270", ["88 45 00 40 10 30 30 34 31 32 37 30 31",
+                                              "88 45 00 81 10 39 30 30 34 31 32 37 30"]),
+                (BOARD, b"00412701900412701", ["88 45 00 40 10 30 30 34 31 32 37 30 31",
+                                               "88 45 00 01 10 39 30 30 34 31 32 37 30", "81 45 00 82 10 31"]),
+                (ExtendedFields(3, 63, 3, 63, 31), b"7", ["81 FF FF C0 F8 37"]),
+                (SLAVE, b"", ["96 E0"]),
+                (SLAVE, b"00412701", ["96 E8 30 30 34 31 32 37 30 31"]),
+                (SLAVE, b"004127019", ["96 A8 00 30 30 34 31 32 37 30", "96 C3 01 31 39"]),
+                (SLAVE, b"004127019004127", ["96 A8 00 30 30 34 31 32 37 30", "96 88 01 31 39 30 30 34 31 32",
+                                             "96 C2 02 37"]),
+                (StandardFields(3, 63, 0), b"7", ["FF 61 37"])]:
+            self.assertEqual([image.hex(" ").upper() for image in split(fields, packet)], images)
+
     def test_every_size_comes_out_whole(self):
-        for format, fields, _, _ in BOTH:
+        for format, fields in BOTH:
             station = self.station(format, fields)
             for size in range(0, LIMITS[format] + 1):
-                # Each size by its count, and a part of them piece by piece: Python is slow.
-                packet = packet_of(size, size)
-                expected = split(fields, packet)
-                self.assertEqual(piece_count(format, size), len(expected))
+                # A part of the sizes: Python is slow.
                 if size > 64 and size % 13 and size != LIMITS[format]:
                     continue
-                self.assertEqual(list(pieces(format, fields, packet)), expected)
-                for piece in expected:
-                    answer = station.receive(Bus.A, piece)
-                self.assertEqual(answer, Packet(size, False))
+                packet = packet_of(size, size)
+                *rest, last = split(fields, packet)
+                self.assertEqual(piece_count(format, size), len(rest) + 1)
+                self.keep(station, rest)
+                self.assertEqual(station.receive(Bus.A, last), Packet(size, False))
                 self.assertEqual(station.read_bytes(0), packet)
 
     def test_refused_in_order_and_nothing_written(self):
@@ -198,8 +207,9 @@ class Splitting(Case):
             self.refused("FIELD", pieces, over, BOARD, b"")
             self.refused("FIELD", pieces, Format.EXTENDED, BOARD._replace(source=over), b"")
         self.refused("FIELD", piece_count, 256, 0)
-        self.refused("SIZE", piece_count, Format.EXTENDED, 2**64)
-        self.refused("INDEX", write_piece, Format.EXTENDED, BOARD, b"", 2**64, bytearray(13))
+        for over in TOO_LARGE:
+            self.refused("SIZE", piece_count, Format.EXTENDED, over)
+            self.refused("INDEX", write_piece, Format.EXTENDED, BOARD, bytes(9), over, bytearray(13))
         self.assertRaises(ValueError, Filter(0x10000, 0).accepts, 0)
 
     def test_packets_are_bytes(self):
@@ -207,7 +217,7 @@ class Splitting(Case):
             self.assertRaises(TypeError, pieces, Format.EXTENDED, BOARD, wrong)
             self.assertRaises(TypeError, self.station().receive, Bus.A, wrong)
         for right in (b"007", bytearray(b"007"), memoryview(b"x007")[1:]):
-            self.assertEqual(list(pieces(Format.EXTENDED, BOARD, right)), split(BOARD, b"007"))
+            self.assertEqual([piece[5:] for piece in split(BOARD, right)], [b"007"])
 
     def test_fields_of_another_format(self):
         self.refused("FIELD", pieces, Format.STANDARD, BOARD, b"")
@@ -215,7 +225,7 @@ class Splitting(Case):
         self.refused("FIELD", Station(Format.EXTENDED).open, Bus.A, SLAVE)
 
     def test_leading_zeros_are_kept(self):
-        for format, fields, _, _ in BOTH:
+        for format, fields in BOTH:
             for serial in (b"0", b"", b"000000000", b"004127019", b"\0\0\0\x2A", b"0" * 40 + b"1"):
                 station = self.station(format, fields)
                 for piece in pieces(format, fields, serial):
@@ -225,46 +235,55 @@ class Splitting(Case):
 
 class Receiving(Case):
     def test_broke(self):
-        for format, fields, size, modulus in BOTH:
+        for format, fields in BOTH:
             station = self.station(format, fields)
-            self.collect(station, fields, size, modulus, 3)
-            self.assertEqual(station.receive(Bus.A, image(fields, START, 0, b"9" * size)), BROKE)
-            self.assertEqual(station.receive(Bus.A, image(fields, END, 1, b"07")), Packet(size + 2, False))
-            self.assertEqual(station.read_bytes(0), b"9" * size + b"07")
-            self.collect(station, fields, size, modulus, 1)
-            self.assertEqual(station.receive(Bus.A, image(fields, SINGLE, 0, b"01")), Packet(2, True))
+            frames = split(fields, packet_of(99))
+            first, last = split(fields, b"9999999907")
+            self.keep(station, frames[:3])
+            self.assertEqual(station.receive(Bus.A, first), BROKE)
+            self.assertEqual(station.receive(Bus.A, last), Packet(10, False))
+            self.assertEqual(station.read_bytes(0), b"9999999907")
+            self.keep(station, frames[:1])
+            self.assertEqual(station.receive(Bus.A, single(fields, b"01")), Packet(2, True))
 
     def test_orphan_keeps_a_done_packet(self):
-        for format, fields, size, _ in BOTH:
+        for format, fields in BOTH:
             station = self.station(format, fields)
-            self.unchanged("ORPHAN", station, image(fields, END, 1, b"07"))
-            self.assertEqual(station.receive(Bus.A, image(fields, SINGLE, 0, b"0042")), Packet(4, False))
-            self.unchanged("ORPHAN", station, image(fields, MIDDLE, 1, b"8" * size))
+            _, middle, end = split(fields, packet_of(20))
+            self.unchanged("ORPHAN", station, end)
+            self.assertEqual(station.receive(Bus.A, single(fields, b"0042")), Packet(4, False))
+            self.unchanged("ORPHAN", station, middle)
             self.assertEqual(station.read_bytes(0), b"0042")
 
     def test_step_then_idle(self):
-        for format, fields, size, modulus in BOTH:
+        for format, fields in BOTH:
             station = self.station(format, fields)
-            self.collect(station, fields, size, modulus, 2)
+            frames = split(fields, packet_of(99))
+            self.keep(station, frames[:2])
             before = bytes(station.store)
-            self.refused("STEP", station.receive, Bus.A, image(fields, MIDDLE, 3, b"8" * size))
+            self.refused("STEP", station.receive, Bus.A, frames[3])
             self.assertTrue(bytes(station.store) == before)
-            self.refused("ORPHAN", station.receive, Bus.A, image(fields, MIDDLE, 2, b"8" * size))
+            self.refused("ORPHAN", station.receive, Bus.A, frames[2])
             self.refused("NOPACKET", station.read, 0)
-            self.assertEqual(station.receive(Bus.A, image(fields, START, 0, b"8" * size)), KEPT)
+            self.keep(station, frames[:1])
+
+    def full(self):
+        """A stream that has 2,048 bytes and no end: middle 191 stands for 255, since both have number 63."""
+        station = self.station()
+        frames = split(BOARD, packet_of(2048))
+        self.keep(station, [*frames[:255], frames[191]])
+        return station
 
     def test_long_at_2048_then_idle(self):
-        station = self.station()
-        self.collect(station, BOARD, 8, 64, 256)
+        station = self.full()
+        end = split(BOARD, packet_of(513))[64]  # with number 0
         before = bytes(station.store)
-        self.refused("LONG", station.receive, Bus.A, image(BOARD, END, 0, b"1"))
+        self.refused("LONG", station.receive, Bus.A, end)
         self.assertTrue(bytes(station.store) == before)
-        self.refused("ORPHAN", station.receive, Bus.A, image(BOARD, END, 0, b"1"))
+        self.refused("ORPHAN", station.receive, Bus.A, end)
 
     def test_long_stands_behind_step(self):
-        station = self.station()
-        self.collect(station, BOARD, 8, 64, 256)
-        self.refused("STEP", station.receive, Bus.A, image(BOARD, END, 1, b"1"))
+        self.refused("STEP", self.full().receive, Bus.A, split(BOARD, packet_of(9))[1])  # with number 1
 
     def test_images_refused_in_their_order(self):
         station = self.station()
@@ -280,22 +299,14 @@ class Receiving(Case):
                 ("ORPHAN", "96 88 FE 01 02 03 04 05 06 07")]:
             self.unchanged(name, station, bytes.fromhex(frame))
 
-    def test_number_modulo_64_in_extended_alone(self):
-        station = self.station()
-        self.collect(station, BOARD, 8, 64, 64)
-        self.assertEqual(station.receive(Bus.A, image(BOARD, END, 0, b"1")), Packet(513, False))
-        station = self.station(Format.STANDARD, SLAVE)
-        self.collect(station, SLAVE, 7, 256, 255)
-        self.assertEqual(station.receive(Bus.A, image(SLAVE, END, 255, b"8" * 7)), Packet(1792, False))
-
     def test_key_is_bus_and_every_field(self):
-        for format, fields, _, _ in BOTH:
+        for format, fields in BOTH:
             station = self.station(format, fields)
-            own = image(fields, SINGLE, 0, b"1")
+            own = single(fields, b"1")
             self.assertEqual(station.receive(Bus.B, own), Filtered())
             for place in range(len(fields)):
                 other = [field ^ (place == at) for at, field in enumerate(fields)]
-                self.assertEqual(station.receive(Bus.A, image(other, SINGLE, 0, b"1")), Filtered())
+                self.assertEqual(station.receive(Bus.A, single(other, b"1")), Filtered())
             self.assertEqual(station.receive(Bus.A, own), Packet(1, False))
 
     def test_store_then_bus_then_image(self):
@@ -319,7 +330,7 @@ class Streams(Case):
         station.close(4)
         self.refused("CLOSED", station.close, 4)
         self.refused("CLOSED", station.read, 4)
-        for slot in (16, -1, 2**64, 2**64 + 1):
+        for slot in (16, *TOO_LARGE):
             self.refused("CLOSED", station.close, slot)
             self.refused("CLOSED", station.read, slot)
         self.assertEqual(station.open(Bus.B, BOARD), 4)
@@ -350,11 +361,11 @@ class Streams(Case):
 
     def test_read_is_the_part_of_the_store(self):
         station = self.station()
-        station.receive(Bus.A, image(BOARD, SINGLE, 0, b"007"))
+        station.receive(Bus.A, single(BOARD, b"007"))
         view, kept = station.read(0), station.read_bytes(0)
         self.assertTrue(view.readonly)
         self.assertEqual(view, b"007")
-        station.receive(Bus.A, image(BOARD, SINGLE, 0, b"008"))
+        station.receive(Bus.A, single(BOARD, b"008"))
         self.assertEqual((bytes(view), kept), (b"008", b"007"))
         self.assertEqual(station.store[:4], b"008\0")
 
@@ -362,7 +373,7 @@ class Streams(Case):
         with mmap.mmap(-1, STORE_SIZE) as lent:
             station = Station(Format.EXTENDED, lent)
             station.open(Bus.A, BOARD)
-            station.receive(Bus.A, image(BOARD, SINGLE, 0, b"007"))
+            station.receive(Bus.A, single(BOARD, b"007"))
             self.assertEqual(lent[:3], b"007")
             self.assertEqual(station.read_bytes(0), b"007")
             del station
@@ -400,13 +411,13 @@ class Streams(Case):
 
     def test_bytes_need_their_store(self):
         station = self.station()
-        station.receive(Bus.A, image(BOARD, SINGLE, 0, b"007"))
+        station.receive(Bus.A, single(BOARD, b"007"))
         self.assertEqual(Station.from_bytes(bytes(station), station.store).read_bytes(0), b"007")
         self.assertRaises(TypeError, Station.from_bytes, bytes(station))
         self.assertRaises(TypeError, Station.from_bytes, bytes(station), None)
 
     def test_equal(self):
-        for frame in (image(BOARD, SINGLE, 0, b"7"), image(BOARD, START, 0, b"00000007")):
+        for frame in (single(BOARD, b"7"), split(BOARD, b"000000070")[0]):
             one, other = self.station(), self.station()
             self.equal_until(lambda station: station.receive(Bus.A, frame), one, other)
             other.receive(Bus.A, frame)
@@ -423,8 +434,8 @@ class Streams(Case):
             station.open(Bus.A, key)
         for slot in set(range(16)) - {0, 7, 15}:
             station.close(slot)
-        station.receive(Bus.A, image(keys[7], START, 0, b"0000007"))
-        station.receive(Bus.A, image(keys[15], SINGLE, 0, b"07"))
+        station.receive(Bus.A, split(keys[7], packet_of(9))[0])
+        station.receive(Bus.A, single(keys[15], b"07"))
         self.assertEqual(
             repr(station), "<Station STANDARD: slot 0 idle; slot 7 collecting, 7 bytes; slot 15 done, 2 bytes>")
 
@@ -563,7 +574,7 @@ class Examples(Case):
 
     def test_example_tells_each_frame_of_a_17th_stream(self):
         sources = [*range(16), 40, 3, 41, 40]
-        images = [image(BOARD._replace(source=source), SINGLE, 0, b"7") for source in sources]
+        images = [single(BOARD._replace(source=source), b"7") for source in sources]
         trace = b"".join(bytes([0, len(piece) + 2, 1, Bus.B]) + piece for piece in images)
         expected = [
             f"record {record}: bus B, source {source}, function 2"
@@ -611,10 +622,11 @@ class Answers(Case):
 
     @contextlib.contextmanager
     def answering(self, answer):
-        calls = ("receive", "master_start", "master_reply", "master_timeout", "piece_count", "watch_check")
-        library = types.SimpleNamespace(**{f"siljuvatt_{call}": lambda *arguments: answer for call in calls})
-        with mock.patch.object(siljuvatt, "_loaded", library):
-            yield
+        calls = mock.Mock(spec_set=[f"siljuvatt_{call}" for call in siljuvatt._ARGUMENTS])
+        for call in siljuvatt._ARGUMENTS:
+            getattr(calls, f"siljuvatt_{call}").return_value = answer
+        with mock.patch.object(siljuvatt, "_loaded", calls):
+            yield calls
 
     def test_refusals_that_are_not_known(self):
         station, master, watch = Station(), Master(), Watch(0)
@@ -647,6 +659,29 @@ class Answers(Case):
         with self.answering(siljuvatt.SEND << 16 | 2):
             self.assertRaisesRegex(RuntimeError, "0x00070002", master.timeout)
 
+    def test_state_is_sound_only_if_it_is_refused_as_expected(self):
+        station, master, watch = Station(), Master(), Watch(0)
+        for refusal, make, *arguments in [
+                (Refusal.CLOSED, Station.from_bytes, bytes(station), station.store),
+                (Refusal.FIELD, Master.from_bytes, bytes(master)), (Refusal.FIELD, Watch.from_bytes, bytes(watch))]:
+            with self.answering(0x80000000 | refusal):
+                self.assertIn(make(*arguments), (station, master, watch))
+            with self.answering(0x80000000 | 99):
+                self.assertRaisesRegex(Refused, "99 UNKNOWN", make, *arguments)
+            for done in (0, refusal, siljuvatt.DONE << 16 | refusal):
+                with self.answering(done):
+                    self.assertRaisesRegex(RuntimeError, f"{done:#010x}", make, *arguments)
+
+    def test_times_are_handed_on_as_32_bits(self):
+        watch = Watch(0)
+        for now, bits in [(2**32 + 5, 5), (2**64 + 5, 5), (-1, 2**32 - 1)]:
+            with self.answering(0) as calls:
+                Watch(now)
+                watch.heard(Bus.A, now)
+                watch.check(now)
+            for call in (calls.siljuvatt_watch_new, calls.siljuvatt_watch_heard, calls.siljuvatt_watch_check):
+                self.assertEqual(call.call_args.args[-1], bits)
+
     def test_refusals_shown_and_handed_on(self):
         for refusal in Refusal:
             refused = Refused(refusal)
@@ -664,6 +699,28 @@ class Loading(Case):
         path = Path(folder) / "other.so"
         subprocess.run(["cc", "-shared", "-o", path, "-x", "c", "-"], input=source, text=True, check=True)
         return path
+
+    def test_every_call_is_declared_as_in_the_header(self):
+        types = {
+            "uint8_t": ctypes.c_uint8, "uint16_t": ctypes.c_uint16, "uint32_t": ctypes.c_uint32,
+            "size_t": ctypes.c_size_t, "bool": ctypes.c_bool, "uint8_t *": ctypes.c_void_p,
+            "siljuvatt_row *": ctypes.c_void_p, "size_t *": ctypes.POINTER(ctypes.c_size_t)}
+        header = (HERE.parent / "include" / "siljuvatt.h").read_text()
+        calls = re.findall(r"^SILJUVATT_USE_ANSWER (\w+) siljuvatt_(\w+)\(([^)]*)\);", header, re.M)
+        self.assertEqual(sorted(name for _, name, _ in calls), sorted(siljuvatt._ARGUMENTS))
+        library = siljuvatt._library()
+        for answer, name, arguments in calls:
+            taken = [types[one.strip()] for one in re.findall(r"(\w+ \*?)\w+(?:,|$)", arguments)]
+            call = getattr(library, f"siljuvatt_{name}")
+            self.assertEqual((name, list(call.argtypes or ()), call.restype), (name, taken, types[answer]))
+
+    def test_other_threads_wait_for_a_call(self):
+        self.assertIsInstance(siljuvatt._library(), ctypes.PyDLL)
+
+    def test_every_public_name_is_in_all(self):
+        symbols = symtable.symtable(Path(siljuvatt.__file__).read_text(), "siljuvatt", "exec").get_symbols()
+        defined = [symbol.get_name() for symbol in symbols if symbol.is_assigned() and not symbol.is_imported()]
+        self.assertEqual(siljuvatt.__all__, sorted(name for name in defined if not name.startswith("_")))
 
     def test_release(self):
         self.assertEqual(siljuvatt.version(), siljuvatt.VERSION)

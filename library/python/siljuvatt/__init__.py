@@ -31,12 +31,13 @@ from pathlib import Path
 from typing import Any, Iterator, NamedTuple, Optional, Sequence, Union
 
 __all__ = [
-    "AREA_SIZE", "Bus", "Done", "EXTENDED_FIELDS", "EXTENDED_IMAGE", "EXTENDED_LIMIT", "ExtendedFields", "Fields",
-    "Filter", "Filtered", "Format", "GaveUp", "Kept", "Kind", "MASTER_LAYOUT", "MASTER_SIZE", "Master", "Packet",
-    "ROW_SIZE", "Refusal", "Refused", "Reply", "SILENCE", "SLOTS", "STANDARD_FIELDS", "STANDARD_IMAGE",
-    "STANDARD_LIMIT", "STATION_LAYOUT", "STATION_SIZE", "STORE_SIZE", "Send", "Silent", "StandardFields", "Station",
-    "Step", "VERSION", "WATCH_LAYOUT", "WATCH_SIZE", "Watch", "id_of", "load", "piece_count", "pieces", "row_accepts",
-    "version", "write_piece",
+    "AREA_SIZE", "Bus", "DONE", "Done", "EXTENDED_FIELDS", "EXTENDED_IMAGE", "EXTENDED_LIMIT", "ExtendedFields",
+    "FILTERED", "Fields", "Filter", "Filtered", "Format", "GAVE_UP", "GaveUp", "KEPT", "Kept", "Kind", "MASTER_LAYOUT",
+    "MASTER_SIZE", "Master", "PACKET", "Packet", "ROW_SIZE", "Refusal", "Refused", "Reply", "SEND", "SILENCE", "SLOTS",
+    "STANDARD_FIELDS", "STANDARD_IMAGE", "STANDARD_LIMIT", "STATION_LAYOUT", "STATION_SIZE", "STORE_SIZE", "Send",
+    "Silent", "StandardFields", "Station", "Step", "VERSION", "VERSION_MAJOR", "VERSION_MINOR", "VERSION_PATCH",
+    "WATCH_LAYOUT", "WATCH_SIZE", "Watch", "id_of", "load", "piece_count", "pieces", "row_accepts", "version",
+    "write_piece",
 ]
 
 # The names and the numbers are those of include/siljuvatt.h, which has SILJUVATT_ before each.
@@ -399,6 +400,8 @@ def _sound(data: Any, refusal: Refusal, call: str, *arguments: int) -> Any:
     data, length = _given(data)
     state = (ctypes.c_uint8 * length).from_buffer_copy(data)
     answer = getattr(_library(), f"siljuvatt_{call}")(state, length, *arguments)
+    if not answer >> 31:
+        raise _unknown(answer)
     if _number(answer) != refusal:
         raise Refused(_number(answer))
     return state

@@ -64,6 +64,20 @@ mod tests {
     }
 
     #[test]
+    fn an_answer_has_16_bits_of_number_then_8_of_kind_then_broke() {
+        for place in 0..31 {
+            let answer = Answer(1 << place);
+            let parts = (answer.number(), u32::from(answer.kind()), answer.broke());
+            let expected = match place {
+                0..16 => (1 << place, 0, false),
+                16..24 => (0, 1 << (place - 16), false),
+                _ => (0, 0, place == 24),
+            };
+            assert_eq!(parts, expected, "bit {place}");
+        }
+    }
+
+    #[test]
     fn only_the_expected_refusal_is_taken() {
         let refused = |refusal: Refusal| Answer(1 << 31 | u32::from(refusal.number()));
         assert_eq!(refused(Refusal::Field).refused_as(Refusal::Field), Ok(()));

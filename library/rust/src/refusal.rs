@@ -26,6 +26,17 @@ macro_rules! refusals {
             Unknown(u32),
         }
 
+        /// A match of all refusals that this release names does not reach those of later ones:
+        ///
+        /// ```
+        /// #![deny(unreachable_patterns)]
+        /// use siljuvatt::Refusal;
+        #[doc = concat!("fn all(refusal: Refusal) { match refusal {", $("Refusal::", stringify!($name), " | ",)*)]
+        /// Refusal::Unknown(_) => (), _ => () } }
+        /// ```
+        #[cfg(doctest)]
+        struct NonExhaustive;
+
         impl Refusal {
             /// All that this release names, by their numbers.
             pub const ALL: &'static [Refusal] = &[$(Refusal::$name),*];

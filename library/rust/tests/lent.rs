@@ -36,3 +36,24 @@ fn a_store_may_be_an_array() {
     assert_eq!(store[AREA_SIZE..][..9], *b"004127019");
     assert_eq!(station.read(&store[1..], 1), Err(Refusal::Store));
 }
+
+// Both names come by a star: this is compiled only if the crate has no Store of its own without the feature.
+#[cfg(not(feature = "alloc"))]
+mod without_the_feature {
+    mod own {
+        pub struct Store;
+    }
+
+    use own::*;
+    #[allow(unused_imports)]
+    use siljuvatt::*;
+
+    pub const STORE: Store = Store;
+}
+
+#[cfg(not(feature = "alloc"))]
+#[test]
+fn there_is_no_store_without_the_feature() {
+    let own = core::any::type_name_of_val(&without_the_feature::STORE);
+    assert!(own.ends_with("own::Store"));
+}

@@ -48,6 +48,27 @@ fn every_size_in_standard() {
 }
 
 #[test]
+fn the_longest_image_is_as_long_as_the_format_says() {
+    for format in BOTH {
+        let bytes = packet(format.limit(), 0);
+        let lengths = pieces(fields(format), &bytes)
+            .unwrap()
+            .map(|image| image.len());
+        assert_eq!(lengths.max(), Some(format.image_size()));
+        let mut output = [0; 20];
+        let (short, enough) = (format.image_size() - 1, format.image_size());
+        assert_eq!(
+            write_piece(fields(format), &bytes, 0, &mut output[..short]),
+            Err(Refusal::Room)
+        );
+        assert_eq!(
+            write_piece(fields(format), &bytes, 0, &mut output[..enough]),
+            Ok(enough)
+        );
+    }
+}
+
+#[test]
 fn only_the_bytes_of_the_image_are_written() {
     for format in BOTH {
         for size in [0, 3, 8, 9, 20] {
