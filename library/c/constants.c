@@ -83,7 +83,7 @@ static void version(void)
     SAME(linked & 0xFF, SILJUVATT_VERSION_PATCH);
 }
 
-/* Each macro at its bounds: the bits that it takes, and those beside them. An argument may be an expression. */
+/* Each macro at its bounds: the bits that it takes, and those beside them. */
 static void answers(void)
 {
     const uint32_t all = UINT32_C(0xFFFFFFFF), top = UINT32_C(0x80000000);
@@ -100,6 +100,37 @@ static void answers(void)
     SAME(SILJUVATT_RESET_A(all ^ UINT32_C(1) << 25), 0);
     SAME(SILJUVATT_RESET_B(UINT32_C(1) << 26), 1);
     SAME(SILJUVATT_RESET_B(all ^ UINT32_C(1) << 26), 0);
+}
+
+static int evaluations;
+
+static uint32_t evaluated(uint32_t answer)
+{
+    evaluations++;
+    return answer;
+}
+
+/*
+ * A macro, and an answer of which it is 1. Its argument may be any expression and is evaluated once, and the macro may
+ * stand in any expression. The answers are such that a macro without its brackets is something else.
+ */
+#define IN_EXPRESSIONS(macro, answer) \
+    SAME(macro(yes ? answer : 0), 1); \
+    SAME(-macro(answer), -1); \
+    evaluations = 0; \
+    SAME(macro(evaluated(answer)), 1); \
+    SAME(evaluations, 1)
+
+static void expressions(void)
+{
+    const bool yes = checks > 0;
+
+    IN_EXPRESSIONS(SILJUVATT_IS_REFUSED, UINT32_C(0x80000000));
+    IN_EXPRESSIONS(SILJUVATT_NUMBER, UINT32_C(0x10001));
+    IN_EXPRESSIONS(SILJUVATT_KIND, UINT32_C(0x10000));
+    IN_EXPRESSIONS(SILJUVATT_BROKE, UINT32_C(0x1000000));
+    IN_EXPRESSIONS(SILJUVATT_RESET_A, UINT32_C(0x2000000));
+    IN_EXPRESSIONS(SILJUVATT_RESET_B, UINT32_C(0x4000000));
 }
 
 /* Two kinds that are equal do not compile. */
@@ -337,6 +368,8 @@ static void row_size(void)
     }
     SAME(looked_at, SILJUVATT_ROW_SIZE);
     SAME(sizeof(siljuvatt_row), SILJUVATT_ROW_SIZE);
+    SAME(sizeof rows[0].bytes, SILJUVATT_ROW_SIZE);
+    SAME(rows[1].bytes - bytes, SILJUVATT_ROW_SIZE);
 }
 
 /* Of any pointer, with bytes that a char may hold as negative numbers, and with one evaluation. */
@@ -357,6 +390,8 @@ static void id_of_any_pointer(void)
     SAME(chars - (char *)image, 1);
     SAME(SILJUVATT_ID((calls++, image)), 0xC581);
     SAME(calls, 1);
+    SAME(sizeof siljuvatt_id_of(image), sizeof(uint16_t));
+    SAME(sizeof SILJUVATT_ID(image), sizeof(uint16_t));
 }
 
 /* ---- A master ---- */
@@ -508,6 +543,7 @@ static void names(void)
 static void other_version(void)
 {
     SAME(SILJUVATT_VERSION, 0x030405);
+    SAME(-SILJUVATT_VERSION, -0x030405);
 }
 
 int main(void)
@@ -515,6 +551,7 @@ int main(void)
     version();
     other_version();
     answers();
+    expressions();
     splitting_extended();
     splitting_standard();
     station_sizes();

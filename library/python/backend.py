@@ -34,7 +34,7 @@ def make_shared(archive, shared):
                  "(for pip, the environment variable SILJUVATT_LIB names another folder)")
     whole = ["-Wl,--whole-archive", archive, "-Wl,--no-whole-archive"]
     try:
-        subprocess.run(["cc", "-shared", *whole, "-Wl,-z,defs", "-o", shared], check=True)
+        subprocess.run(["cc", "-shared", *whole, "-Wl,-z,defs", f"-Wl,-soname,{shared.name}", "-o", shared], check=True)
     except FileNotFoundError:
         sys.exit("cc is not there; on Debian it comes by: apt install gcc")
     except subprocess.CalledProcessError:
