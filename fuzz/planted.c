@@ -1,26 +1,75 @@
 /*
- * A fault planted before a call of the library: it reads one byte behind a row. fuzz/run links it in by --wrap, to
- * see that valgrind tells of such a read, and AddressSanitizer of one through memcpy, which it watches.
+ * Faults planted in calls of the library, one at a time, by the name in PLANTED. fuzz/run links them in by --wrap, to
+ * see that each is told: a read one byte behind a row, by valgrind; the same through memcpy, which AddressSanitizer
+ * watches; and a wrong answer, a wrong byte, a wrong number and a wrong byte of the store, by fuzz/replay.c.
  */
+#include <stdlib.h>
 #include <string.h>
 
 #include "siljuvatt.h"
 
-bool __real_siljuvatt_row_accepts(const siljuvatt_row *row, uint16_t id);
-bool __wrap_siljuvatt_row_accepts(const siljuvatt_row *row, uint16_t id);
+#define WRAPPED(result, call, arguments)                                                                               \
+    result __real_siljuvatt_##call arguments;                                                                          \
+    result __wrap_siljuvatt_##call arguments;                                                                          \
+    result __wrap_siljuvatt_##call arguments
 
 static volatile uint8_t last;
 
-bool __wrap_siljuvatt_row_accepts(const siljuvatt_row *row, uint16_t id)
+static bool planted(const char *fault)
+{
+    const char *name = getenv("PLANTED");
+
+    return name != NULL && strcmp(name, fault) == 0;
+}
+
+static void read_behind(const siljuvatt_row *row)
 {
     volatile size_t behind = sizeof row->bytes;
-#ifdef BY_MEMCPY
     uint8_t copy[sizeof row->bytes + 1];
 
-    memcpy(copy, row, behind + 1);
-    last = copy[behind];
-#else
-    last = row->bytes[behind];
-#endif
-    return __real_siljuvatt_row_accepts(row, id);
+    if (planted("read"))
+        last = row->bytes[behind];
+    if (planted("memcpy")) {
+        memcpy(copy, row, behind + 1);
+        last = copy[behind];
+    }
+}
+
+WRAPPED(bool, row_accepts, (const siljuvatt_row *row, uint16_t id))
+{
+    read_behind(row);
+    return __real_siljuvatt_row_accepts(row, id) != planted("answer");
+}
+
+WRAPPED(uint32_t, write_piece,
+        (uint8_t format, const uint8_t *fields, size_t fields_length, const uint8_t *packet, size_t packet_length,
+         size_t k, uint8_t *output, size_t output_length))
+{
+    uint32_t answer = __real_siljuvatt_write_piece(format, fields, fields_length, packet, packet_length, k, output,
+                                                   output_length);
+
+    if (output_length != 0)
+        output[output_length - 1] ^= planted("byte");
+    return answer;
+}
+
+WRAPPED(uint32_t, receive,
+        (uint8_t *station, size_t station_length, uint8_t *store, size_t store_length, uint8_t bus,
+         const uint8_t *image, size_t image_length))
+{
+    uint32_t answer = __real_siljuvatt_receive(station, station_length, store, store_length, bus, image, image_length);
+
+    if (store_length != 0)
+        store[store_length - 1] |= planted("store");
+    return answer;
+}
+
+WRAPPED(uint32_t, read,
+        (const uint8_t *station, size_t station_length, const uint8_t *store, size_t store_length, size_t slot,
+         size_t *start))
+{
+    uint32_t answer = __real_siljuvatt_read(station, station_length, store, store_length, slot, start);
+
+    *start ^= planted("number");
+    return answer;
 }

@@ -130,14 +130,14 @@ static size_t *lend_number(void)
     return (size_t *)(void *)buffer.bytes;
 }
 
-static void compare(struct buffer got)
+static void compare(struct buffer got, const char *difference)
 {
     struct buffer expected = read_buffer();
 
     if (expected.length != got.length)
         fail("a buffer has another length than recorded");
     if (got.length != 0 && memcmp(expected.bytes, got.bytes, got.length) != 0)
-        fail("what was lent differs");
+        fail(difference);
     free(expected.bytes);
 }
 
@@ -153,7 +153,7 @@ static void end_call(void)
             if (number != read_size())
                 fail("a number differs");
         } else if (kinds[i] != STORE) {
-            compare(lent[i]);
+            compare(lent[i], "what was lent differs");
         }
         if (kinds[i] >= PARTS)
             free(lent[i].bytes);
@@ -391,7 +391,7 @@ int main(void)
         if (what >= SET && what < SET + PARTS)
             set(what - SET);
         else if (what == END_OF_SEQUENCE)
-            compare(parts[STORE]);
+            compare(parts[STORE], "the store differs");
         else
             call(what);
     }

@@ -1,5 +1,5 @@
 //! On random traffic, whole and damaged, the library and the plain receivers give the same answers, and end with
-//! the same stations and stores.
+//! the same stations and stores. Each comparison is seen to tell a fault that is planted in what it compares.
 
 use bench::arrivals::{fields_at, kinds, one_source, Answered, FORMATS};
 use bench::bytes::STATION_SIZE;
@@ -8,8 +8,36 @@ use bench::plain::{Format, Key, Refusal, Station, SLOTS, STORE_SIZE};
 use bench::receivers::{Library, Plain, PlainBytes};
 use bench::{library, split};
 use second::interface::{refused, FILTERED, KEPT, PACKET};
+use std::panic;
 use testkit::damage::{corrupt, LONGEST};
 use testkit::Random;
+
+/// The faults that can be planted, by the comparisons that have to tell them.
+const IN_TRAFFIC: [&str; 15] = [
+    "open",
+    "close",
+    "receive",
+    "receive by bytes",
+    "read",
+    "packet",
+    "start",
+    "state",
+    "state by bytes",
+    "station",
+    "store",
+    "store by bytes",
+    "piece count",
+    "piece",
+    "image",
+];
+const IN_STATES: [&str; 2] = ["judged", "judged state"];
+const IN_ROWS: [&str; 5] = [
+    "row",
+    "row by plain",
+    "row by bytes",
+    "one source",
+    "one source by plain",
+];
 
 /// The same station three times, each with its store.
 struct Bench {
@@ -17,10 +45,12 @@ struct Bench {
     plain: Station,
     plain_bytes: [u8; STATION_SIZE],
     stores: [Vec<u8>; 3],
+    /// The fault that is planted, if any.
+    fault: &'static str,
 }
 
 impl Bench {
-    fn new(format: Format) -> Bench {
+    fn new(format: Format, fault: &'static str) -> Bench {
         let mut library = [0xAA; STATION_SIZE];
         assert_eq!(library::station_new(&mut library, format as u8), 0);
         Bench {
@@ -28,17 +58,34 @@ impl Bench {
             plain: Station::new(format),
             plain_bytes: library,
             stores: std::array::from_fn(|_| vec![0; STORE_SIZE]),
+            fault,
         }
+    }
+
+    /// The library's answer, wrong if this fault is planted.
+    fn answer(&self, fault: &str, answer: u32) -> u32 {
+        answer ^ u32::from(self.fault == fault)
+    }
+
+    /// The library's bytes, the last of them wrong if this fault is planted.
+    fn bytes(&self, fault: &str, bytes: &[u8]) -> Vec<u8> {
+        let mut bytes = bytes.to_vec();
+        if let Some(last) = bytes.last_mut() {
+            *last ^= u8::from(self.fault == fault);
+        }
+        bytes
     }
 
     fn open(&mut self, key: Key) {
         let answer = library::open(&mut self.library, key.bus, &fields_bytes(key.fields));
+        let answer = self.answer("open", answer);
         assert_eq!(number_word(self.plain.open(key)), answer);
         self.plain_bytes = self.library;
     }
 
     fn close(&mut self, slot: usize) {
         let answer = library::close(&mut self.library, slot);
+        let answer = self.answer("close", answer);
         assert_eq!(number_word(self.plain.close(slot)), answer);
         self.plain_bytes = self.library;
     }
@@ -46,16 +93,11 @@ impl Bench {
     fn receive(&mut self, bus: u8, image: &[u8]) -> u32 {
         let [first, second, third] = &mut self.stores;
         let answer = library::receive(&mut self.library, first, bus, image);
-        assert_eq!(
-            reply_word(self.plain.receive(second, bus, image)),
-            answer,
-            "{image:02X?}"
-        );
-        assert_eq!(
-            reply_word(bytes::receive(&mut self.plain_bytes, third, bus, image)),
-            answer,
-            "{image:02X?}"
-        );
+        let plain = reply_word(self.plain.receive(second, bus, image));
+        let by_bytes = reply_word(bytes::receive(&mut self.plain_bytes, third, bus, image));
+        assert_eq!(plain, self.answer("receive", answer), "{image:02X?}");
+        let seen = self.answer("receive by bytes", answer);
+        assert_eq!(by_bytes, seen, "{image:02X?}");
         answer
     }
 
@@ -63,23 +105,69 @@ impl Bench {
         let mut start = usize::MAX;
         let answer = library::read(&self.library, &self.stores[0], slot, &mut start);
         let packet = self.plain.read(&self.stores[1], slot);
-        assert_eq!(number_word(packet.map(<[u8]>::len)), answer);
+        assert_eq!(
+            number_word(packet.map(<[u8]>::len)),
+            self.answer("read", answer)
+        );
         match packet {
-            Ok(packet) => assert_eq!(&self.stores[0][start..start + answer as usize], packet),
-            Err(_) => assert_eq!(start, usize::MAX),
+            Ok(packet) => {
+                let read = &self.stores[0][start..start + answer as usize];
+                assert_eq!(self.bytes("packet", read), packet);
+            }
+            Err(_) => assert_eq!(start ^ usize::from(self.fault == "start"), usize::MAX),
         }
     }
 
     fn check_states(&self) {
         let mut own = [0; STATION_SIZE];
         put_station(&self.plain, &mut own);
-        assert_eq!(own, self.library);
-        assert_eq!(self.plain_bytes, self.library);
-        assert_eq!(station_of(&self.library).as_ref(), Ok(&self.plain));
+        assert_eq!(self.bytes("state", &self.library), own);
+        let seen = self.bytes("state by bytes", &self.library);
+        assert_eq!(seen, self.plain_bytes);
+        let seen = self.bytes("station", &self.library);
+        assert_eq!(station_of(&seen).as_ref(), Ok(&self.plain));
     }
 
     fn check_stores(&self) {
-        assert!(self.stores[0] == self.stores[1] && self.stores[0] == self.stores[2]);
+        let [first, second, third] = &self.stores;
+        assert!(self.bytes("store", first) == *second);
+        assert!(self.bytes("store by bytes", first) == *third);
+    }
+
+    /// The answer to an image, and the state after it, by the library and by bytes.
+    fn judge(&mut self, image: &[u8]) -> u32 {
+        let [first, second, _] = &mut self.stores;
+        let answer = library::receive(&mut self.library, first, 0, image);
+        let by_bytes = reply_word(bytes::receive(&mut self.plain_bytes, second, 0, image));
+        assert_eq!(by_bytes, self.answer("judged", answer));
+        let seen = self.bytes("judged state", &self.library);
+        assert_eq!(seen, self.plain_bytes);
+        answer
+    }
+
+    /// The images of a packet, written by the library and by plain Rust.
+    fn pieces(&self, random: &mut Random, format: Format, slot: usize) -> Vec<Vec<u8>> {
+        let size = a_size(random, format);
+        let packet = random.bytes(size);
+        let fields = fields_at(format, slot);
+        let handed = fields_bytes(fields);
+        let answer = self.answer("piece count", library::piece_count(format as u8, size));
+        assert_eq!(number_word(split::piece_count(format, size)), answer);
+        let count = split::piece_count(format, size).unwrap_or(0);
+        let mut images = Vec::new();
+        for k in 0..=count {
+            let mut outputs = [[0xEE; 14]; 2];
+            let room = 14 - random.below(4);
+            let answer =
+                library::write_piece(format as u8, &handed, &packet, k, &mut outputs[0][..room]);
+            let own = split::write_piece(fields, &packet, k, &mut outputs[1][..room]);
+            assert_eq!(number_word(own), self.answer("piece", answer));
+            assert_eq!(self.bytes("image", &outputs[0]), outputs[1]);
+            if let Ok(length) = own {
+                images.push(outputs[0][..length].to_vec());
+            }
+        }
+        images
     }
 }
 
@@ -90,31 +178,6 @@ fn a_size(random: &mut Random, format: Format) -> usize {
         2 => random.below(format.packet_limit() + 3),
         _ => format.packet_limit() - random.below(3),
     }
-}
-
-/// The images of a packet, written by the library and by plain Rust.
-fn pieces(random: &mut Random, format: Format, slot: usize) -> Vec<Vec<u8>> {
-    let size = a_size(random, format);
-    let packet = random.bytes(size);
-    let fields = fields_at(format, slot);
-    let handed = fields_bytes(fields);
-    let answer = library::piece_count(format as u8, size);
-    assert_eq!(number_word(split::piece_count(format, size)), answer);
-    let count = split::piece_count(format, size).unwrap_or(0);
-    let mut images = Vec::new();
-    for k in 0..=count {
-        let mut outputs = [[0xEE; 14]; 2];
-        let room = 14 - random.below(4);
-        let answer =
-            library::write_piece(format as u8, &handed, &packet, k, &mut outputs[0][..room]);
-        let own = split::write_piece(fields, &packet, k, &mut outputs[1][..room]);
-        assert_eq!(number_word(own), answer);
-        assert_eq!(outputs[0], outputs[1]);
-        if let Ok(length) = own {
-            images.push(outputs[0][..length].to_vec());
-        }
-    }
-    images
 }
 
 /// The testkit's format, which is the second program's.
@@ -134,9 +197,9 @@ fn kind_of(answer: u32) -> u32 {
     }
 }
 
-fn traffic(seed: u64, format: Format, answers: &mut Vec<u32>) {
+fn traffic(seed: u64, format: Format, fault: &'static str, answers: &mut Vec<u32>) {
     let mut random = Random::new(seed);
-    let mut bench = Bench::new(format);
+    let mut bench = Bench::new(format, fault);
     for _ in 0..60 {
         match random.below(8) {
             0 => bench.close(random.below(SLOTS + 1)),
@@ -151,7 +214,7 @@ fn traffic(seed: u64, format: Format, answers: &mut Vec<u32>) {
         }
         let slot = random.below(10);
         let mut bus = random.below(2) as u8;
-        for mut image in pieces(&mut random, format, slot) {
+        for mut image in bench.pieces(&mut random, format, slot) {
             if random.chance(20) {
                 corrupt(&mut image, format_of_kit(format), LONGEST, &mut random);
             }
@@ -174,7 +237,7 @@ fn traffic_is_received_alike() {
     let mut answers = Vec::new();
     for seed in 1..=40 {
         for format in FORMATS {
-            traffic(seed, format, &mut answers);
+            traffic(seed, format, "", &mut answers);
         }
     }
     let taken = [PACKET, KEPT].map(|kind| [kind << 16, kind << 16 | 1 << 24]);
@@ -194,14 +257,13 @@ fn traffic_is_received_alike() {
     }
 }
 
-/// Bytes that are no sound station, and some that are.
-#[test]
-fn states_are_judged_alike() {
+/// Bytes that are no sound station, and some that are; answers how many were.
+fn states(turns: usize, fault: &'static str) -> usize {
     let mut random = Random::new(7);
     let mut sound = 0;
-    for turn in 0..40_000 {
+    for turn in 0..turns {
         let format = FORMATS[turn % 2];
-        let mut bench = Bench::new(format);
+        let mut bench = Bench::new(format, fault);
         for slot in 0..random.below(SLOTS + 1) {
             bench.open(Key {
                 bus: random.below(2) as u8,
@@ -217,17 +279,35 @@ fn states_are_judged_alike() {
             };
         }
         bench.plain_bytes = bench.library;
-        let image = [0x81, 0x45, 0, 0xC0, 0x10, 7];
-        let [first, second, _] = &mut bench.stores;
-        let answer = library::receive(&mut bench.library, first, 0, &image);
-        assert_eq!(
-            reply_word(bytes::receive(&mut bench.plain_bytes, second, 0, &image)),
-            answer
-        );
-        assert_eq!(bench.plain_bytes, bench.library);
+        let answer = bench.judge(&[0x81, 0x45, 0, 0xC0, 0x10, 7]);
         sound += usize::from(answer != refused(Refusal::State));
     }
+    sound
+}
+
+#[test]
+fn states_are_judged_alike() {
+    let sound = states(40_000, "");
     assert!((8_000..32_000).contains(&sound), "{sound}");
+}
+
+/// Whether a comparison fails.
+fn is_told<T>(compare: impl FnOnce() -> T + panic::UnwindSafe) -> bool {
+    panic::catch_unwind(compare).is_err()
+}
+
+#[test]
+fn planted_faults_are_told() {
+    for fault in IN_TRAFFIC {
+        let compare = || traffic(1, Format::Extended, fault, &mut Vec::new());
+        assert!(is_told(compare), "{fault}");
+    }
+    for fault in IN_STATES {
+        assert!(is_told(|| states(100, fault)), "{fault}");
+    }
+    for fault in IN_ROWS {
+        assert!(is_told(|| rows(fault)), "{fault}");
+    }
 }
 
 /// The answer that a row's name says, but for the length of a packet.
@@ -241,18 +321,30 @@ fn named(answered: Answered) -> u32 {
 }
 
 /// Each row of the tables measures what it says.
-#[test]
-fn rows_are_answered_as_named() {
+fn rows(fault: &str) {
+    let seen = |name: &str, answer: Option<u32>| {
+        answer.expect("an image") ^ u32::from(fault == name) << 16
+    };
     for format in FORMATS {
         for row in kinds(format) {
             let name = row.name();
-            let answer = row.arrival.answer::<Library>().expect("an image");
-            assert_eq!(kind_of(answer), named(row.answered), "{name}");
-            assert_eq!(row.arrival.answer::<Plain>(), Some(answer), "{name}");
-            assert_eq!(row.arrival.answer::<PlainBytes>(), Some(answer), "{name}");
+            let answer = row.arrival.answer::<Library>();
+            let named = named(row.answered);
+            assert_eq!(kind_of(seen("row", answer)), named, "{name}");
+            let plain = seen("row by plain", row.arrival.answer::<Plain>());
+            assert_eq!(Some(plain), answer, "{name}");
+            let by_bytes = seen("row by bytes", row.arrival.answer::<PlainBytes>());
+            assert_eq!(Some(by_bytes), answer, "{name}");
         }
     }
-    let packet = Some(PACKET << 16 | 8);
-    assert_eq!(one_source().answer::<Library>(), packet);
-    assert_eq!(one_source().answer::<Plain>(), packet);
+    let packet = PACKET << 16 | 8;
+    let answer = one_source().answer::<Library>();
+    assert_eq!(seen("one source", answer), packet);
+    let answer = one_source().answer::<Plain>();
+    assert_eq!(seen("one source by plain", answer), packet);
+}
+
+#[test]
+fn rows_are_answered_as_named() {
+    rows("");
 }

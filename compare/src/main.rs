@@ -16,12 +16,14 @@ mod step;
 mod tally;
 mod trace;
 mod traces;
+mod wrong;
 
 use std::env;
 use std::io;
 use std::path::Path;
 use std::process::ExitCode;
 use traces::Programs;
+use wrong::Place;
 
 const USAGE: &str = "usage:
   compare traces LISTING COUNT SEED [--keep FILE] [--also COMMAND]
@@ -30,7 +32,8 @@ const USAGE: &str = "usage:
   compare full CALLS
   compare calls CALLS COUNT SEED [--keep FILE]
   compare make N SEED >TRACE
-  compare log <TRACE >LOG";
+  compare log <TRACE >LOG
+  compare wrong PLACE <OUTPUT >OUTPUT";
 
 fn main() -> ExitCode {
     let arguments: Vec<String> = env::args().skip(1).collect();
@@ -70,6 +73,11 @@ fn run(arguments: &[&str]) -> Result<(), String> {
         ["log"] => {
             let logged = log::log(io::stdin().lock(), io::stdout().lock());
             logged.map_err(|error| error.to_string())
+        }
+        ["wrong", place] => {
+            let place = Place::parse(place)?;
+            let made = wrong::wrong(place, io::stdin().lock(), io::stdout().lock());
+            made.map_err(|error| error.to_string())
         }
         _ => Err(USAGE.to_string()),
     }

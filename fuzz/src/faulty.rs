@@ -1,6 +1,6 @@
 //! Libraries with one fault each, and tests that each is noticed.
 
-use std::cell::Cell;
+use std::cell::{Cell, RefCell};
 use std::io::Sink;
 use std::process::Command;
 use std::{env, ptr, slice};
@@ -15,7 +15,7 @@ use crate::call::Call;
 use crate::crash;
 use crate::driver::{run, Failure, Options};
 use crate::huge;
-use crate::library::{lent, Library, Raw, RawAnswer, FUNCTIONS};
+use crate::library::{lent, Library, Raw, RawAnswer, FUNCTIONS, WITH_LENGTH};
 use crate::tally::Tally;
 
 /// A buffer that a call was lent.
@@ -30,6 +30,11 @@ impl Lent {
     /// Changes a bit of the byte at a place, which may lie outside.
     unsafe fn spoil(&self, place: isize) {
         *self.at.offset(place) ^= 0x10;
+    }
+
+    /// Whether its length needs more than 32 bits.
+    fn is_huge(&self) -> bool {
+        self.length > u32::MAX as usize
     }
 }
 
@@ -110,6 +115,8 @@ struct Faulty {
     spoil: Spoil,
     /// How often the function was called; the fault comes up at the seventh call, so that others pass.
     calls: Cell<usize>,
+    /// The huge buffers that functions were lent.
+    huge: RefCell<Vec<(&'static str, &'static str)>>,
 }
 
 impl Faulty {
@@ -118,10 +125,15 @@ impl Faulty {
             function,
             spoil: Box::new(spoil),
             calls: Cell::new(0),
+            huge: RefCell::default(),
         }
     }
 
-    fn end(&self, function: &str, lent: &[Lent], answer: u32) -> u32 {
+    fn end(&self, function: &'static str, lent: &[Lent], answer: u32) -> u32 {
+        let huge = lent.iter().filter(|lent| lent.is_huge());
+        self.huge
+            .borrow_mut()
+            .extend(huge.map(|lent| (function, lent.name)));
         if function != self.function {
             return answer;
         }
@@ -318,14 +330,30 @@ fn a_start_written_by_a_refused_read() {
     assert!(matches!(difference, Difference::Byte { name: "start", .. }));
 }
 
+/// Whatever is lent with a length is lent once with a huge one.
+#[test]
+fn every_length_is_once_over_32_bits() {
+    let sound = Faulty::new("none", |_, answer| answer);
+    assert_eq!(huge::check(&sound), Ok(WITH_LENGTH.len()));
+    let mut made = sound.huge.into_inner();
+    let mut declared = WITH_LENGTH.to_vec();
+    made.sort();
+    declared.sort();
+    assert_eq!(made, declared);
+}
+
 #[test]
 fn a_length_taken_for_one_of_32_bits() {
-    let sound = Faulty::new("none", |_, answer| answer);
-    assert_eq!(huge::check(&sound), Ok(19));
-    let wrong = Faulty::new("master_timeout", |_, _| SEND << 16);
-    wrong.calls.set(100);
-    let said = huge::check(&wrong);
-    assert!(said.is_err_and(|said| said.starts_with("master_timeout: master of over 2^32")));
+    for &(function, argument) in WITH_LENGTH {
+        let wrong = Faulty::new(function, move |lent, answer| {
+            let is_it = |lent: &Lent| lent.name == argument && lent.is_huge();
+            answer + u32::from(lent.iter().any(is_it))
+        });
+        wrong.calls.set(100);
+        let said = huge::check(&wrong).unwrap_err();
+        let expected = format!("{function}: {argument} of over 2^32");
+        assert!(said.starts_with(&expected), "{said}");
+    }
 }
 
 #[test]

@@ -7,6 +7,9 @@ pub type Raw<K> = <K as Argument>::Raw;
 pub type RawAnswer<A> = <A as Answer>::Raw;
 
 macro_rules! library {
+    (@length $name:ident $argument:ident $length:ident) => {
+        (stringify!($name), stringify!($argument))
+    };
     ($(
         $function:ident as $name:ident($($argument:ident $([$length:ident])?: $kind:ty),*) -> $answer:ty;
     )*) => {
@@ -53,6 +56,10 @@ macro_rules! library {
             let names = |arguments: &&[(&'static str, &str)]| arguments.iter().filter(is_lent).map(|a| a.0).collect();
             arguments.iter().map(names).collect()
         }
+
+        /// Each argument that has a length, behind the name of its function.
+        pub const WITH_LENGTH: &[(&str, &str)] =
+            &[$($($(library!(@length $name $argument $length),)?)*)*];
     };
 }
 
@@ -69,6 +76,8 @@ mod tests {
         assert_eq!(lent.len(), FUNCTIONS.len());
         assert_eq!(lent[Function::read as usize], ["station", "store", "start"]);
         assert!(lent[Function::version as usize].is_empty());
+        let of_read = WITH_LENGTH.iter().filter(|of| of.0 == "read");
+        assert!(of_read.eq(&[("read", "station"), ("read", "store")]));
     }
 
     /// In the header's order, so that a look at one finds the other.
