@@ -9,7 +9,7 @@ use Rattle.format.specs.Refusals.{value, guarded}
 use Rattle.format.proofs.Tables.{by-test, sameBool, same-bool, sameResult, same-result}
 use Rattle.frame.specs.Layout.{flagOf, layout}
 use Rattle.frame.specs.Judge.{pieceRule, checks, judge}
-use Rattle.frame.specs.Bounds.{Bound, rules, judges, reads, pieceTable, imageTable, layoutTable, refusalOf, Holds, JudgingBounds}
+use Rattle.frame.specs.Bounds.{Bound, rules, judges, reads, pieceTable, imageTable, codeTable, layoutTable, refusalOf, Holds, JudgingBounds}
 use Rattle.frame.proofs.Codes.{sameJudged, same-judged}
 
 abbrev test : Bound → Bool
@@ -24,4 +24,4 @@ says (reads format image judged) e = same-result sameJudged same-judged _ _ e
 
 pub judging-bounds : JudgingBounds
 unfolding JudgingBounds allAfter allTrue guarded flagOf layout pieceRule checks judge
-judging-bounds = by-test Holds test says (pieceTable ++ (imageTable ++ layoutTable)) refl
+judging-bounds = by-test Holds test says (pieceTable ++ (imageTable ++ (codeTable ++ layoutTable))) refl

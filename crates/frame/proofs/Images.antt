@@ -1,13 +1,15 @@
--- The image of a frame is judged to be that frame, and an image that is judged sound is the image of its frame.
+-- The image of a frame is judged to be that frame, and an image that is judged sound is the image of its frame but for its count code.
 use Prim.Native.Nat.{ℕ, _+_, _-_, _*_, _/_, _%_, _≤_, _<_}
 use mathlib.Core.Path.{_≡_, refl, sym, ap, subst, _∙_}
+use mathlib.Core.Logic.{_≢_}
 use mathlib.Core.Bool.{Bool, true, false, cond}
 use mathlib.Core.List.{List, _∷_}
 use native.Mathlib.Nat.{div-add-mod', div-div-eq-div-mul}
 use native.Mathlib.Omega.{arith}
 use lib.ListN.{length, getD, drop, length-drop}
 use lib.Seq.{drop-cons}
-use borrow.Author.Tests.{eqb-true, eq-eqb, lt-ltb}
+use lib.Dec.{eqb}
+use borrow.Author.Tests.{eqb-true, eqb-false, eq-eqb, lt-ltb}
 use Rattle.format.specs.declared.Format.{Format}
 use Rattle.format.specs.declared.Format.the-variants as format
 use Rattle.format.specs.declared.Fields.{Fields}
@@ -20,10 +22,11 @@ use Rattle.format.specs.Refusals.{value}
 use Rattle.format.proofs.Tests.{each, from-each, tests}
 use Rattle.format.proofs.Checks.{pass, none-left, Passed, passed}
 use Rattle.frame.specs.Layout.{flagOf, layout}
-use Rattle.frame.specs.Judge.{pieceRule, checks, readBy, judge}
-use Rattle.frame.specs.Image.{headerBytes, imageOf, soundFrame}
-use Rattle.frame.specs.Claims.{Bytes, ImageIsJudged, IsImage, JudgedIsImage, OneImage}
+use Rattle.frame.specs.Judge.{Frame, dataCount, pieceRule, checks, readBy, judge}
+use Rattle.frame.specs.Image.{dataOf, headerBytes, imageWith, imageOf, countCode, withCode, soundFrame}
+use Rattle.frame.specs.Claims.{Bytes, ImageIsJudged, SaysEight, CodeFor, CodesAlike, EachCodeIsJudged, IsImage, JudgedIsImage, OneImage}
 use Rattle.frame.proofs.Flags.{bits-small, flag-of-bits, bits-of-flag}
+use Rattle.frame.proofs.CountCodes.{few-said, code-for, codes-alike, with-code}
 
 -- a piece that keeps its rule has eight data bytes at most
 pub rule-count : (fm : Format) (flag : Flag) (count number : ℕ) → pieceRule fm flag count number ≡ true → count ≤ 8
@@ -52,7 +55,8 @@ module _ (priority source group destination function : ℕ) (flag : Flag) (n : �
       let zeros : (128 + l) / 16 % 4 ≡ 0 = rw eight in
       let one : (128 + l) / 128 ≡ 1 = omega tests in
       let low : 8 * function % 8 ≡ 0 = omega tests in
-      let count : (128 + l) % 16 ≡ l = omega tests in
+      let code : (128 + l) % 16 ≡ l = omega tests in
+      let count : dataCount ((128 + l) % 16) ≡ l = ap dataCount code ∙ few-said l short in
       let bits : (64 * flagBits flag + n) / 64 ≡ flagBits flag = omega tests in
       let number : (64 * flagBits flag + n) % 64 ≡ n = omega tests in
       let p : (64 * priority + source) / 64 ≡ priority = omega tests in
@@ -65,7 +69,7 @@ module _ (priority source group destination function : ℕ) (flag : Flag) (n : �
       (pass Length _ _ (from-each _ (omega tests))
       (pass Form _ _ (from-each _ (eq-eqb _ _ one, (eq-eqb _ _ zeros, (eq-eqb _ _ low, tt))))
       (pass Remote _ _ (eq-eqb _ _ rtr)
-      (pass Count _ _ (from-each _ (omega tests)) (pass Piece _ _ (rw (flagged, count, number) (t .1 .1 .0)) (none-left _))))))
+      (pass Count _ _ (rw count (omega tests)) (pass Piece _ _ (rw (flagged, count, number) (t .1 .1 .0)) (none-left _))))))
       ∙ (λ i.
       value
       (record {
@@ -104,7 +108,8 @@ module _ (priority address side : ℕ) (flag : Flag) (n : ℕ) (bytes : List ℕ
       let b0 = 64 * priority + address in
       let b1 = 128 * side + 32 * flagBits flag + l in
       let short : l ≤ 8 = d .short in
-      let count : b1 % 16 ≡ l = omega tests in
+      let code : b1 % 16 ≡ l = omega tests in
+      let count : dataCount (b1 % 16) ≡ l = ap dataCount code ∙ few-said l short in
       let upper : b1 / 32 ≡ 4 * side + flagBits flag = omega tests in
       let bits : b1 / 32 % 4 ≡ flagBits flag = rw upper (omega tests) in
       let even : b1 / 16 ≡ 2 * (4 * side + flagBits flag) = omega tests in
@@ -121,7 +126,7 @@ module _ (priority address side : ℕ) (flag : Flag) (n : ℕ) (bytes : List ℕ
       (pass Length _ _ (from-each _ (omega tests))
       (pass Form _ _ refl
       (pass Remote _ _ (eq-eqb _ _ rtr)
-      (pass Count _ _ (from-each _ (omega tests)) (pass Piece _ _ (rw (number, flagged, count) rule) (none-left _))))))
+      (pass Count _ _ (rw count (omega tests)) (pass Piece _ _ (rw (number, flagged, count) rule) (none-left _))))))
       ∙ (λ i.
       value
       (record {
@@ -162,15 +167,15 @@ module _ (image : List ℕ) (small : Bytes image) (h : Passed (checks format.Ext
       let size = each _ (h .0) in
       let fixed = each _ (h .1 .0) in
       let remote = h .1 .1 .0 in
-      let counted = each _ (h .1 .1 .1 .0) in
+      let counted : length image ≡ 5 + dataCount (b0 % 16) = eqb-true _ _ (h .1 .1 .1 .0) in
       let rule = h .1 .1 .1 .1 .0 in
-      let count : length (drop 5 image) ≡ b0 % 16 = rw length-drop (omega tests) in
+      let count : length (drop 5 image) ≡ dataCount (b0 % 16) = rw length-drop (omega tests) in
       let one : b0 / 64 / 2 ≡ 1 = div-div-eq-div-mul b0 64 2 ∙ eqb-true _ _ (fixed .0) in
       let top : b0 / 64 ≡ 2 = sym (div-add-mod' (b0 / 64) 2) ∙ (λ i. one i * 2 + eqb-true (b0 / 64 % 2) 0 remote i) in
       let quarter : b0 / 16 / 4 ≡ b0 / 64 = div-div-eq-div-mul b0 16 4 in
       let zeros : b0 / 16 % 4 ≡ 0 = eqb-true _ _ (fixed .1 .0) in
       let mid : b0 / 16 ≡ 8 = sym (div-add-mod' (b0 / 16) 4) ∙ (λ i. (quarter ∙ top) i * 4 + zeros i) in
-      let e0 : 128 + length (drop 5 image) ≡ b0 = rw count (omega tests) in
+      let e0 : 128 + b0 % 16 ≡ b0 = omega tests in
       let e1 : 64 * (b1 / 64) + b1 % 64 ≡ b1 = omega tests in
       let e2 : 64 * (b2 / 64) + b2 % 64 ≡ b2 = omega tests in
       let bits : flagBits (flagOf (b3 / 64)) ≡ b3 / 64 = bits-of-flag (b3 / 64) (omega tests) in
@@ -178,6 +183,7 @@ module _ (image : List ℕ) (small : Bytes image) (h : Passed (checks format.Ext
       let e4 : 8 * (b4 / 8) ≡ b4 = omega tests in
       record {
         whole = (λ i. e0 i ∷ e1 i ∷ e2 i ∷ e3 i ∷ e4 i ∷ drop 5 image) ∙ sym (five image (omega tests));
+        code = rw count (code-for (b0 % 16) (omega arith));
         sound = from-each _ (from-each _ (omega tests), (omega tests, (rw count rule, tt)));
         of-format = refl;
         starts = omega tests;
@@ -215,8 +221,8 @@ module _ (image : List ℕ) (small : Bytes image) (h : Passed (checks format.Sta
       let s2 : b2 < 256 = small 2 in
       let size = each _ (h .0) in
       let remote = h .1 .1 .0 in
-      let counted = each _ (h .1 .1 .1 .0) in
-      let count : length image - 2 ≡ b1 % 16 = omega tests in
+      let counted : length image ≡ 2 + dataCount (b1 % 16) = eqb-true _ _ (h .1 .1 .1 .0) in
+      let count : length image - 2 ≡ dataCount (b1 % 16) = omega tests in
       let rule : pieceRule format.Standard flag (length image - 2) n ≡ true = rw count (h .1 .1 .1 .1 .0) in
       let back = data-back flag image n (omega tests) rule in
       let whole : length (cond (numbered format.Standard flag) (n ∷ drop (packetStart format.Standard flag) image) (drop (packetStart format.Standard flag) image)) ≡ length image - 2 =
@@ -225,10 +231,10 @@ module _ (image : List ℕ) (small : Bytes image) (h : Passed (checks format.Sta
       let quarter : b1 / 32 / 4 ≡ b1 / 128 = div-div-eq-div-mul b1 32 4 in
       let bits : flagBits flag ≡ b1 / 32 % 4 = bits-of-flag (b1 / 32 % 4) (omega tests) in
       let e0 : 64 * (b0 / 64) + b0 % 64 ≡ b0 = omega tests in
-      let e1 : 128 * (b1 / 128) + 32 * flagBits flag + length (cond (numbered format.Standard flag) (n ∷ drop (packetStart format.Standard flag) image) (drop (packetStart format.Standard flag) image)) ≡ b1 =
-      rw (whole, bits, count) (omega tests) in
+      let e1 : 128 * (b1 / 128) + 32 * flagBits flag + b1 % 16 ≡ b1 = rw bits (omega tests) in
       record {
         whole = (λ i. e0 i ∷ e1 i ∷ back i) ∙ sym (two image (omega tests));
+        code = rw (whole, count) (code-for (b1 % 16) (omega arith));
         sound = from-each _ (from-each _ (omega tests), (lt-ltb _ _ (number-small (numbered format.Standard flag) b2 s2), (rw whole rule, tt)));
         of-format = refl;
         starts = start-back flag (length image) n (omega tests) rule;
@@ -261,7 +267,51 @@ judged-is-image fm image small judged e =
     let p = passed (checks fm (length image) (layout fm image)) (readBy (layout fm image) image) judged e in
     subst (IsImage fm image) (p .1) (is-image fm image small (p .0))
 
+pub each-code-is-judged : EachCodeIsJudged
+unfolding EachCodeIsJudged CodesAlike ImageIsJudged imageOf
+each-code-is-judged frame code s c = go (eqb (length (dataOf frame)) 8) refl
+  where
+    fm : Format
+    fm = formatOf (frame .fields)
+
+    go : (b : Bool) → eqb (length (dataOf frame)) 8 ≡ b
+        → judge fm (imageWith code frame) ≡ value (record { frame = frame; start = packetStart fm (frame .flag) })
+    go true e =
+        let n = eqb-true _ _ e in
+        ap (judge fm) (sym (with-code frame 8 code (omega arith)))
+        ∙ codes-alike fm (imageWith 8 frame) code (c .eight n)
+        ∙ ap (judge fm) (with-code frame 8 8 (omega arith))
+        ∙ ap (λ (k : ℕ). judge fm (imageWith k frame)) (sym n)
+        ∙ image-is-judged frame s
+    go false e = ap (λ (k : ℕ). judge fm (imageWith k frame)) (c .other (eqb-false _ _ e)) ∙ image-is-judged frame s
+
+code-small : (fm : Format) (image : List ℕ) → countCode fm image < 16
+unfolding layout
+code-small format.Extended image = omega arith
+code-small format.Standard image = omega arith
+
+-- two codes before the same number of data bytes
+two-codes : (code code′ count : ℕ) → CodeFor code count → CodeFor code′ count → code ≢ code′ → SaysEight code × SaysEight code′
+two-codes code code′ count c c′ differ = go (eqb count 8) refl
+  where
+    go : (b : Bool) → eqb count 8 ≡ b → SaysEight code × SaysEight code′
+    go true e = let n = eqb-true _ _ e in (c .eight n, c′ .eight n)
+    go false e = let n = eqb-false _ _ e in absurd (differ (c .other n ∙ sym (c′ .other n)))
+
 pub one-image : OneImage
 unfolding OneImage JudgedIsImage
 one-image fm fm′ image image′ small small′ judged judged′ e e′ same =
-    sym (judged-is-image fm image small judged e .whole) ∙ ap imageOf same ∙ judged-is-image fm′ image′ small′ judged′ e′ .whole
+    let i = judged-is-image fm image small judged e in
+    let j = judged-is-image fm′ image′ small′ judged′ e′ in
+    let code = countCode fm image in
+    let code′ = countCode fm′ image′ in
+    let again : CodeFor code′ (length (dataOf (judged .frame))) = rw same (j .code) in
+    record {
+      of-format = sym (i .of-format) ∙ ap (λ (f : Frame). formatOf (f .fields)) same ∙ j .of-format;
+      but-code = ap (withCode fm code′) (sym (i .whole))
+          ∙ ap (λ (f : Format). withCode f code′ (imageWith code (judged .frame))) (sym (i .of-format))
+          ∙ with-code (judged .frame) code code′ (code-small fm image)
+          ∙ ap (imageWith code′) same
+          ∙ j .whole;
+      codes = two-codes code code′ _ (i .code) again;
+    }

@@ -15,7 +15,7 @@ use Rattle.format.specs.Refusals.{Result, value, refused, guarded}
 use Rattle.format.proofs.Checks.{stop, pass, none-left}
 use Rattle.frame.specs.declared.Layout.{Layout}
 use Rattle.frame.specs.Layout.{layout}
-use Rattle.frame.specs.Judge.{pieceRule, checks, Judged, readBy, judge}
+use Rattle.frame.specs.Judge.{dataCount, pieceRule, checks, Judged, readBy, judge}
 
 both : (a b : Bool) → a ≡ true → b ≡ true → allTrue (a ∷ b ∷ []) ≡ true
 unfolding allTrue
@@ -69,32 +69,29 @@ module _ (format : Format) (image : List ℕ) (said : Layout) (e : said ≡ layo
         r : eqb (said .rtr) 0 ≡ true
         r = not-false (eqb (said .rtr) 0) present
 
-        miscounted : allTrue (leb (said .count) 8 ∷ eqb (length image) (headerSize format + said .count) ∷ []) ≡ false → refused 4 ≡ judge format image
-        unfolding checks
-        miscounted c = judged (pass Length _ _ sized (pass Form _ _ f (pass Remote _ _ r (stop Count _ _ c))))
-
-        pub over-eight : 8 < said .count → refused 4 ≡ judge format image
-        over-eight c = miscounted (first-fails _ _ (lt-leb _ _ c))
-
-        module _ (c : said .count ≤ 8) (count : ℕ) (ec : count ≡ said .count) where
-          pub other-count : (length image - header ≡ count → ⊥) → refused 4 ≡ judge format image
+        -- the count that `judge` has read from the count code, and the same as a length
+        module _ (count : ℕ) (ec : count ≡ dataCount (said .code)) (wide : ℕ) (ew : wide ≡ count) where
+          pub other-count : (length image - header ≡ wide → ⊥) → refused 4 ≡ judge format image
+          unfolding checks
           other-count n =
-              let m : length image ≡ headerSize format + said .count → ⊥ = λ q. n (omega arith) in
-              miscounted (second-fails _ _ (le-leb _ _ c) (ne-eqb _ _ m))
+              let m : length image ≡ headerSize format + count → ⊥ = λ q. n (omega arith) in
+              judged (pass Length _ _ sized (pass Form _ _ f (pass Remote _ _ r (stop Count _ _ (rw (← ec) (ne-eqb _ _ m))))))
 
-          module _ (n : length image - header ≡ count) (rule : Bool) (er : rule ≡ pieceRule format (said .flag) (said .count) (said .number)) where
-            counted : allTrue (leb (said .count) 8 ∷ eqb (length image) (headerSize format + said .count) ∷ []) ≡ true
-            counted = let m : length image ≡ headerSize format + said .count = omega arith in both _ _ (le-leb _ _ c) (eq-eqb _ _ m)
+          module _ (n : length image - header ≡ wide) (rule : Bool) (er : rule ≡ pieceRule format (said .flag) count (said .number)) where
+            counted : eqb (length image) (headerSize format + dataCount (said .code)) ≡ true
+            counted = let m : length image ≡ headerSize format + count = omega arith in rw (← ec) (eq-eqb _ _ m)
 
             pub unruled : not rule ≡ true → refused 5 ≡ judge format image
             unfolding checks
             unruled p =
                 judged
-                (pass Length _ _ sized (pass Form _ _ f (pass Remote _ _ r (pass Count _ _ counted (stop Piece _ _ (sym er ∙ not-true rule p))))))
+                (pass Length _ _ sized
+                (pass Form _ _ f (pass Remote _ _ r (pass Count _ _ counted (stop Piece _ _ (rw (← ec) (sym er ∙ not-true rule p)))))))
 
             pub ruled : not rule ≡ false → value (readBy said image) ≡ judge format image
             unfolding checks
             ruled p =
                 judged
                 (pass Length _ _ sized
-                (pass Form _ _ f (pass Remote _ _ r (pass Count _ _ counted (pass Piece _ _ (sym er ∙ not-false rule p) (none-left _))))))
+                (pass Form _ _ f
+                (pass Remote _ _ r (pass Count _ _ counted (pass Piece _ _ (rw (← ec) (sym er ∙ not-false rule p)) (none-left _))))))

@@ -5,7 +5,7 @@ use mathlib.Core.Bool.{true}
 use mathlib.Core.List.{List}
 use native.Mathlib.Omega.{arith}
 use lib.ListN.{length, drop, length-drop}
-use borrow.Author.Tests.{eqb-true, leb-true, ltb-true}
+use borrow.Author.Tests.{eqb-true, ltb-true}
 use Rattle.format.specs.declared.Format.{Format}
 use Rattle.format.specs.declared.Format.the-variants.{Extended, Standard}
 use Rattle.format.specs.declared.Flag.{Flag}
@@ -17,10 +17,10 @@ use Rattle.format.specs.Refusals.{Result, value, refused, number}
 use Rattle.format.proofs.Tests.{each, tests}
 use Rattle.format.proofs.Checks.{passed, refused-by}
 use Rattle.frame.specs.Layout.{layout}
-use Rattle.frame.specs.Judge.{Judged, pieceRule, checks, readBy, judge}
+use Rattle.frame.specs.Judge.{Judged, dataCount, pieceRule, checks, readBy, judge}
 use Rattle.frame.specs.Image.{soundFrame}
 use Rattle.frame.specs.Claims.{Bytes, JudgedIsImage}
-use Rattle.frame.proofs.Images.{judged-is-image}
+use Rattle.frame.proofs.Images.{rule-count, judged-is-image}
 
 -- ---- an image that is judged sound
 
@@ -30,11 +30,11 @@ pub record SoundImage (format : Format) (image : List ℕ) (judged : Judged) : T
   -- fixed bits and RTR
   pub formed : layout format image .fixed ≡ true
   pub data-frame : layout format image .rtr ≡ 0
-  -- its data bytes are as many as the count says, eight at most
-  pub few : layout format image .count ≤ 8
-  pub size : length image ≡ headerSize format + layout format image .count
+  -- its data bytes are as many as its count code says, eight at most
+  pub few : dataCount (layout format image .code) ≤ 8
+  pub size : length image ≡ headerSize format + dataCount (layout format image .code)
   -- it keeps the piece rule
-  pub rule : pieceRule format (judged .frame .flag) (layout format image .count) (judged .frame .number) ≡ true
+  pub rule : pieceRule format (judged .frame .flag) (dataCount (layout format image .code)) (judged .frame .number) ≡ true
   -- the packet bytes are those from start to the image's end, eight at most
   pub start-is : judged .start ≡ packetStart format (judged .frame .flag)
   pub starts : judged .start ≤ length image
@@ -66,16 +66,15 @@ module _ (format : Format) (image : List ℕ) where
   of-layout judged e =
       let said = layout format image in
       let p = passed (checks format (length image) said) (readBy said image) judged e .0 in
-      let counted = each _ (p .1 .1 .1 .0) in
-      let size = eqb-true _ _ (counted .1 .0) in
+      let size = eqb-true _ _ (p .1 .1 .1 .0) in
       let rule = p .1 .1 .1 .1 .0 in
       let s = start-of format image in
-      let w = start-within format (said .flag) (said .count) (said .number) rule in
+      let w = start-within format (said .flag) (dataCount (said .code)) (said .number) rule in
       record {
         by-layout = refl;
         formed = p .1 .0;
         data-frame = eqb-true _ _ (p .1 .1 .0);
-        few = leb-true _ _ (counted .0);
+        few = rule-count format (said .flag) (dataCount (said .code)) (said .number) rule;
         size = size;
         rule = rule;
         start-is = s;

@@ -1,5 +1,6 @@
 pub mod Flags
 mod JudgeLaws
+mod CountCodes
 pub mod Images
 pub mod Judged
 mod Verdicts

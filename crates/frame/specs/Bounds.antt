@@ -1,6 +1,6 @@
 -- Document 01, "Frame images" and the piece rules: every end of every range, from both sides, the order of refusals 1 to 5, and what
--- stands where. The figures are literals, so that one changed alike in a definition and in the code breaks the claim.
--- proofs/Bounds.antt proves it.
+-- stands where; and document 02, L3: what each count code says. The figures are literals, so that one changed alike in a definition and in
+-- the code breaks the claim. proofs/Bounds.antt proves it.
 use Prim.Native.Nat.{ℕ}
 use mathlib.Core.Path.{_≡_}
 use mathlib.Core.Bool.{Bool, true, false}
@@ -85,12 +85,11 @@ pieceTable =
 
 abbrev pub imageTable : List Bound
 imageTable =
-    -- extended: 5 to 13 bytes, count 0 to 8
+    -- extended: 5 to 13 bytes
     judges Extended (0x80 ∷ 0x45 ∷ 0x00 ∷ 0xC0 ∷ []) 1
     ∷ judges Extended (extended 0x80 0xC0 0x10 0) 0
     ∷ judges Extended (extended 0x88 0xC0 0x10 8) 0
     ∷ judges Extended (extended 0x89 0xC0 0x10 9) 1
-    ∷ judges Extended (extended 0x89 0xC0 0x10 8) 4
     -- length not header plus count: one less, one more
     ∷ judges Extended (extended 0x81 0xC0 0x10 0) 4
     ∷ judges Extended (extended 0x87 0xC0 0x10 8) 4
@@ -116,12 +115,11 @@ imageTable =
     ∷ judges Extended (extended 0xD1 0xC0 0x10 1) 2
     ∷ judges Extended (extended 0xC2 0xC0 0x10 1) 3
     ∷ judges Extended (extended 0x82 0xC1 0x10 1) 4
-    -- standard: 2 to 10 bytes, count 0 to 8
+    -- standard: 2 to 10 bytes
     ∷ judges Standard (0x96 ∷ []) 1
     ∷ judges Standard (0x96 ∷ 0xE0 ∷ []) 0
     ∷ judges Standard (standard 0xE8 7 7) 0
     ∷ judges Standard (standard 0xE9 7 8) 1
-    ∷ judges Standard (standard 0xE9 7 7) 4
     ∷ judges Standard (0x96 ∷ 0xE1 ∷ []) 4
     ∷ judges Standard (standard 0xE7 7 7) 4
     ∷ judges Standard (standard 0xF1 7 0) 3
@@ -137,6 +135,88 @@ imageTable =
     ∷ judges Standard (standard 0xC2 1 0) 4
     ∷ []
 
+-- document 02, L3: what each count code says
+abbrev pub codeTable : List Bound
+codeTable =
+    -- extended: a code of 8 to 15 is sound before eight data bytes, and COUNT before seven
+    judges Extended (extended 0x88 0xC0 0x10 8) 0
+    ∷ judges Extended (extended 0x89 0xC0 0x10 8) 0
+    ∷ judges Extended (extended 0x8A 0xC0 0x10 8) 0
+    ∷ judges Extended (extended 0x8B 0xC0 0x10 8) 0
+    ∷ judges Extended (extended 0x8C 0xC0 0x10 8) 0
+    ∷ judges Extended (extended 0x8D 0xC0 0x10 8) 0
+    ∷ judges Extended (extended 0x8E 0xC0 0x10 8) 0
+    ∷ judges Extended (extended 0x8F 0xC0 0x10 8) 0
+    ∷ judges Extended (extended 0x88 0xC0 0x10 7) 4
+    ∷ judges Extended (extended 0x89 0xC0 0x10 7) 4
+    ∷ judges Extended (extended 0x8A 0xC0 0x10 7) 4
+    ∷ judges Extended (extended 0x8B 0xC0 0x10 7) 4
+    ∷ judges Extended (extended 0x8C 0xC0 0x10 7) 4
+    ∷ judges Extended (extended 0x8D 0xC0 0x10 7) 4
+    ∷ judges Extended (extended 0x8E 0xC0 0x10 7) 4
+    ∷ judges Extended (extended 0x8F 0xC0 0x10 7) 4
+    -- before none; a code of 7 before seven and before eight
+    ∷ judges Extended (extended 0x89 0xC0 0x10 0) 4
+    ∷ judges Extended (extended 0x8F 0xC0 0x10 0) 4
+    ∷ judges Extended (extended 0x87 0xC0 0x10 7) 0
+    ∷ judges Extended (extended 0x87 0xC0 0x10 8) 4
+    -- it is read as 8 before the piece rules: a start, a middle and an end, and pieces that break their rules
+    ∷ judges Extended (extended 0x89 0x40 0x10 8) 0
+    ∷ judges Extended (extended 0x89 0x3F 0x10 8) 0
+    ∷ judges Extended (extended 0x89 0xBF 0x10 8) 0
+    ∷ judges Extended (extended 0x89 0x41 0x10 8) 5
+    ∷ judges Extended (extended 0x89 0xC1 0x10 8) 5
+    ∷ judges Extended (extended 0x8F 0x40 0x10 8) 0
+    ∷ judges Extended (extended 0x8F 0x3F 0x10 8) 0
+    ∷ judges Extended (extended 0x8F 0xBF 0x10 8) 0
+    ∷ judges Extended (extended 0x8F 0x41 0x10 8) 5
+    ∷ judges Extended (extended 0x8F 0xC1 0x10 8) 5
+    -- LENGTH, FORM and REMOTE come before it, and COUNT before PIECE
+    ∷ judges Extended (extended 0x8F 0xC0 0x10 9) 1
+    ∷ judges Extended (extended 0x99 0xC0 0x10 8) 2
+    ∷ judges Extended (extended 0x8F 0xC0 0x11 8) 2
+    ∷ judges Extended (extended 0xCC 0xC0 0x10 8) 3
+    ∷ judges Extended (extended 0xCC 0xC0 0x10 7) 3
+    ∷ judges Extended (extended 0x8C 0x41 0x10 7) 4
+    -- standard: the same, where the eight data bytes include the number
+    ∷ judges Standard (standard 0xE8 7 7) 0
+    ∷ judges Standard (standard 0xE9 7 7) 0
+    ∷ judges Standard (standard 0xEA 7 7) 0
+    ∷ judges Standard (standard 0xEB 7 7) 0
+    ∷ judges Standard (standard 0xEC 7 7) 0
+    ∷ judges Standard (standard 0xED 7 7) 0
+    ∷ judges Standard (standard 0xEE 7 7) 0
+    ∷ judges Standard (standard 0xEF 7 7) 0
+    ∷ judges Standard (standard 0xE8 7 6) 4
+    ∷ judges Standard (standard 0xE9 7 6) 4
+    ∷ judges Standard (standard 0xEA 7 6) 4
+    ∷ judges Standard (standard 0xEB 7 6) 4
+    ∷ judges Standard (standard 0xEC 7 6) 4
+    ∷ judges Standard (standard 0xED 7 6) 4
+    ∷ judges Standard (standard 0xEE 7 6) 4
+    ∷ judges Standard (standard 0xEF 7 6) 4
+    ∷ judges Standard (0x96 ∷ 0xE9 ∷ []) 4
+    ∷ judges Standard (0x96 ∷ 0xEF ∷ []) 4
+    ∷ judges Standard (standard 0xE7 7 6) 0
+    ∷ judges Standard (standard 0xE7 7 7) 4
+    ∷ judges Standard (standard 0xA9 0 7) 0
+    ∷ judges Standard (standard 0x89 254 7) 0
+    ∷ judges Standard (standard 0xC9 255 7) 0
+    ∷ judges Standard (standard 0xA9 1 7) 5
+    ∷ judges Standard (standard 0x89 255 7) 5
+    ∷ judges Standard (standard 0xC9 0 7) 5
+    ∷ judges Standard (standard 0xAF 0 7) 0
+    ∷ judges Standard (standard 0x8F 254 7) 0
+    ∷ judges Standard (standard 0xCF 255 7) 0
+    ∷ judges Standard (standard 0xAF 1 7) 5
+    ∷ judges Standard (standard 0x8F 255 7) 5
+    ∷ judges Standard (standard 0xCF 0 7) 5
+    ∷ judges Standard (standard 0xEF 7 8) 1
+    ∷ judges Standard (standard 0xFC 7 7) 3
+    ∷ judges Standard (standard 0xFC 7 6) 3
+    ∷ judges Standard (standard 0xAC 1 6) 4
+    ∷ []
+
 abbrev judgedFrame : Fields → Flag → (number : ℕ) → (bytes : List ℕ) → (start : ℕ) → Judged
 judgedFrame said flag n bytes start =
     record { frame = record { fields = said; flag = flag; number = n; bytes = bytes }; start = start }
@@ -149,9 +229,13 @@ layoutTable =
     ∷ reads Extended (0x88 ∷ 0xFF ∷ 0xFF ∷ 0x3F ∷ 0xF8 ∷ replicate 8 7)
     (judgedFrame (fields.Extended 3 63 3 63 31) Middle 63 (replicate 8 7) 5)
     ∷ reads Extended (0x82 ∷ 0x45 ∷ 0x86 ∷ 0x81 ∷ 0x10 ∷ 8 ∷ 9 ∷ []) (judgedFrame (fields.Extended 1 5 2 6 2) End 1 (8 ∷ 9 ∷ []) 5)
+    ∷ reads Extended (0x8C ∷ 0x45 ∷ 0x86 ∷ 0x82 ∷ 0x10 ∷ 1 ∷ 2 ∷ 3 ∷ 4 ∷ 5 ∷ 6 ∷ 7 ∷ 8 ∷ [])
+    (judgedFrame (fields.Extended 1 5 2 6 2) End 2 (1 ∷ 2 ∷ 3 ∷ 4 ∷ 5 ∷ 6 ∷ 7 ∷ 8 ∷ []) 5)
     ∷ reads Standard (0xFF ∷ 0x62 ∷ 8 ∷ 9 ∷ []) (judgedFrame (fields.Standard 3 63 0) Single 0 (8 ∷ 9 ∷ []) 2)
     ∷ reads Standard (standard 0xA8 0 7) (judgedFrame (fields.Standard 2 22 1) Start 0 (replicate 7 7) 3)
     ∷ reads Standard (0x05 ∷ 0x08 ∷ 254 ∷ replicate 7 7) (judgedFrame (fields.Standard 0 5 0) Middle 254 (replicate 7 7) 3)
+    ∷ reads Standard (0x96 ∷ 0xCC ∷ 2 ∷ 1 ∷ 2 ∷ 3 ∷ 4 ∷ 5 ∷ 6 ∷ 7 ∷ [])
+    (judgedFrame (fields.Standard 2 22 1) End 2 (1 ∷ 2 ∷ 3 ∷ 4 ∷ 5 ∷ 6 ∷ 7 ∷ []) 3)
     ∷ reads Standard (0x96 ∷ 0xC3 ∷ 1 ∷ 8 ∷ 9 ∷ []) (judgedFrame (fields.Standard 2 22 1) End 1 (8 ∷ 9 ∷ []) 3)
     ∷ []
 
@@ -166,4 +250,4 @@ Holds (judges format image n) = refusalOf (judge format image) ≡ n
 Holds (reads format image judged) = judge format image ≡ value judged
 
 unfoldable pub JudgingBounds : Type 0
-JudgingBounds = AllHold Holds (pieceTable ++ (imageTable ++ layoutTable))
+JudgingBounds = AllHold Holds (pieceTable ++ (imageTable ++ (codeTable ++ layoutTable)))

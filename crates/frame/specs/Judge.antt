@@ -1,6 +1,6 @@
 -- Document 01, "Frame images", the piece rules, and "Refusal numbers" 1 to 5 in their order: what an image is judged to be.
 use Prim.Native.Nat.{ℕ, _+_}
-use mathlib.Core.Bool.{Bool, not, _||_}
+use mathlib.Core.Bool.{Bool, not, _||_, cond}
 use mathlib.Core.List.{List, [], _∷_}
 use lib.Dec.{leb, eqb}
 use lib.ListN.{length, drop}
@@ -25,6 +25,11 @@ pub record Frame : Type 0 where
   pub number : ℕ
   pub bytes : List ℕ
 
+-- Document 02, L3, which overrules document 01 here: "Received counts 9 to 15 are read as 8, in both formats, before the piece rules."
+-- How many data bytes a count code says.
+abbrev pub dataCount : ℕ → ℕ
+dataCount code = cond (leb 9 code) 8 code
+
 -- single: any count 0 to 8; extended number 0 (a standard single has no number, for which the layout gives 0).
 -- start: count 8, number 0.
 -- middle: count 8. Standard number 1 to 254.
@@ -39,14 +44,15 @@ pieceRule Standard End count number =
     allTrue (leb 1 number ∷ leb number 255 ∷ leb 2 count ∷ leb count 8 ∷ (not (eqb number 1) || leb 3 count) ∷ [])
 
 -- LENGTH: image length outside its format's range, 5 to 13 or 2 to 10. FORM: extended fixed bits wrong. REMOTE: RTR is 1.
--- COUNT: count over 8, or image length not header plus count. PIECE: a piece rule broken.
+-- COUNT: image length not header plus count (L3: no longer a count over 8). PIECE: a piece rule broken.
 unfoldable pub checks : Format → ℕ → Layout → List Check
 checks format size said =
+    let count : ℕ = dataCount (said .code) in
     check Length (allTrue (leb (headerSize format) size ∷ leb size (headerSize format + 8) ∷ []))
     ∷ check Form (said .fixed)
     ∷ check Remote (eqb (said .rtr) 0)
-    ∷ check Count (allTrue (leb (said .count) 8 ∷ eqb size (headerSize format + said .count) ∷ []))
-    ∷ check Piece (pieceRule format (said .flag) (said .count) (said .number))
+    ∷ check Count (eqb size (headerSize format + count))
+    ∷ check Piece (pieceRule format (said .flag) count (said .number))
     ∷ []
 
 -- a frame read from an image, and where in the image its packet bytes begin: they run from there to its end

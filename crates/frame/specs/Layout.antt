@@ -30,7 +30,7 @@ layout Extended image =
     record {
       fixed = allTrue (eqb (byte 0 / 128) 1 ∷ eqb (byte 0 / 16 % 4) 0 ∷ eqb (byte 4 % 8) 0 ∷ []);
       rtr = byte 0 / 64 % 2;
-      count = byte 0 % 16;
+      code = byte 0 % 16;
       fields = fields.Extended (byte 1 / 64) (byte 1 % 64) (byte 2 / 64) (byte 2 % 64) (byte 4 / 8);
       flag = flag;
       number = byte 3 % 64;
@@ -42,7 +42,7 @@ layout Standard image =
     record {
       fixed = true;
       rtr = byte 1 / 16 % 2;
-      count = byte 1 % 16;
+      code = byte 1 % 16;
       fields = fields.Standard (byte 0 / 64) (byte 0 % 64) (byte 1 / 128);
       flag = flag;
       number = cond (numbered Standard flag) (byte 2) 0;

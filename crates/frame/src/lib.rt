@@ -9,15 +9,15 @@ ghost use Prim.Native.Nat.{_≤_};
 ghost use lib.ListN.{length, getD};
 ghost use Rattle.format.specs.Formats.{headerSize};
 ghost use Rattle.frame.specs.Layout.{flagOf, layout};
-ghost use Rattle.frame.specs.Judge.{pieceRule, judge, meaning};
-ghost use Rattle.frame.specs.Claims.{ImageIsJudged, JudgedIsImage, OneImage, OneVerdict};
+ghost use Rattle.frame.specs.Judge.{dataCount, pieceRule, judge, meaning};
+ghost use Rattle.frame.specs.Claims.{ImageIsJudged, CodesAlike, EachCodeIsJudged, CountIsLength, JudgedIsImage, OneImage, OneVerdict};
 ghost use Rattle.frame.specs.Bounds.{JudgingBounds};
 
 // What stands in the bits of an image, right or wrong.
 struct Layout {
     pub fixed: bool,
     pub rtr: u8,
-    pub count: u8,
+    pub code: u8,
     pub fields: Fields,
     pub flag: Flag,
     pub number: u8,
@@ -79,7 +79,7 @@ fn layout_extended(image: &[u8]) -> Layout
     Layout {
         fixed: (b0 / 128 == 1) & (b0 / 16 % 4 == 0) & (b4 % 8 == 0),
         rtr: b0 / 64 % 2,
-        count: b0 % 16,
+        code: b0 % 16,
         fields: fields,
         flag: flag,
         number: b3 % 64,
@@ -119,7 +119,7 @@ fn layout_standard(image: &[u8]) -> Layout
     Layout {
         fixed: true,
         rtr: b1 / 16 % 2,
-        count: b1 % 16,
+        code: b1 % 16,
         fields: fields,
         flag: flag,
         number: number,
@@ -135,6 +135,13 @@ fn layout_of(format: Format, image: &[u8]) -> Layout
         Format::Extended => layout_extended(image),
         Format::Standard => layout_standard(image),
     }
+}
+
+// How many data bytes a count code says: those over 8 say eight.
+fn data_count(code: u8) -> u8
+    ensures { λ r. ⌜ r ≡ dataCount code ⌝ }
+{
+    if 9 <= code { 8 } else { code }
 }
 
 fn middle_rule(format: Format, count: u8, number: u8) -> bool
@@ -195,10 +202,8 @@ pub fn judge(format: Format, image: &[u8]) -> Verdict
     if !data_frame {
         return Verdict::Refused(Refusal::Remote);
     }
-    let count = l.count;
-    if count > 8 {
-        return Verdict::Refused(Refusal::Count);
-    }
+    let code = l.code;
+    let count = data_count(code);
     if n - header != wide(count) {
         return Verdict::Refused(Refusal::Count);
     }
@@ -219,6 +224,9 @@ pub fn judge(format: Format, image: &[u8]) -> Verdict
 // The claims of this crate. It does nothing: its contract ties each claim to its proof.
 pub fn promised()
     ensures image_is_judged { λ _. ⌜ ImageIsJudged ⌝ }
+    ensures codes_alike { λ _. ⌜ CodesAlike ⌝ }
+    ensures each_code_is_judged { λ _. ⌜ EachCodeIsJudged ⌝ }
+    ensures count_is_length { λ _. ⌜ CountIsLength ⌝ }
     ensures judged_is_image { λ _. ⌜ JudgedIsImage ⌝ }
     ensures one_image { λ _. ⌜ OneImage ⌝ }
     ensures one_verdict { λ _. ⌜ OneVerdict ⌝ }

@@ -67,6 +67,10 @@ aMiddle = 0x00 ∷ 0x0F ∷ 0x01 ∷ 0x01 ∷ 0x88 ∷ 0x06 ∷ 0x00 ∷ 0x01 �
 abbrev aStart : List ℕ
 aStart = 0x00 ∷ 0x0F ∷ 0x01 ∷ 0x00 ∷ 0x88 ∷ 0x45 ∷ 0x00 ∷ 0x40 ∷ 0x10 ∷ 0x30 ∷ 0x30 ∷ 0x34 ∷ 0x31 ∷ 0x32 ∷ 0x37 ∷ 0x30 ∷ 0x31 ∷ []
 
+-- a record of that size with bytes 0 and 3 of its image, and so many data bytes
+abbrev coded : (size byte0 byte3 count : ℕ) → List ℕ
+coded size byte0 byte3 count = 0x00 ∷ size ∷ 0x01 ∷ 0x00 ∷ byte0 ∷ 0x45 ∷ 0x00 ∷ byte3 ∷ 0x10 ∷ replicate count 7
+
 abbrev pub atBounds : List (Row (List ℕ) (List ℕ))
 atBounds =
     -- a damaged record "prints its number and "stopped" and isn't counted; the count line follows and nothing after is read"
@@ -109,6 +113,17 @@ atBounds =
     ∷ "3 A 1 5 0 0 1 0 2 8 kept"
     ∷ "4 A 1 5 0 0 2 1 2 1 packet 9"
     ∷ "records 4"
+    ∷ []))
+    -- document 02, L3: "the listing prints 8 for such a count", of 9 to 15; with seven data bytes the image is refused
+    ∷ row (coded 0x0F 0x89 0x40 8
+    ++ (coded 0x0F 0x8C 0x01 8 ++ (coded 0x0F 0x8F 0x82 8 ++ (coded 0x0F 0x8C 0xC0 8 ++ coded 0x0E 0x8C 0xC0 7))))
+    (headed
+    ("1 A 1 5 0 0 1 0 2 8 kept"
+    ∷ "2 A 1 5 0 0 0 1 2 8 kept"
+    ∷ "3 A 1 5 0 0 2 2 2 8 packet 24"
+    ∷ "4 A 1 5 0 0 3 0 2 8 packet 8"
+    ∷ "5 A refused 4"
+    ∷ "records 5"
     ∷ []))
     ∷ []
 

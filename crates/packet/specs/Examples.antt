@@ -1,5 +1,6 @@
 -- Document 01, "Examples to hold against the rules": the starred examples of images, counts and numbers, as one table with a
--- single claim over it. proofs/Examples.antt proves it.
+-- single claim over it. Document 02, L3, changed one row: "the case "89 before 8 data bytes" becomes a sound image where its other fields
+-- are sound". proofs/Examples.antt proves it.
 use Prim.Native.Nat.{ℕ}
 use mathlib.Core.Path.{_≡_}
 use mathlib.Core.List.{List, [], _∷_}
@@ -10,7 +11,7 @@ use Rattle.format.specs.declared.Fields.{Fields}
 use Rattle.format.specs.declared.Fields.the-variants as fields
 use Rattle.format.specs.declared.Flag.{Flag}
 use Rattle.format.specs.declared.Flag.the-variants.{End, Single}
-use Rattle.format.specs.declared.Refusal.the-variants.{Length, Form, Remote, Count, Piece, Size}
+use Rattle.format.specs.declared.Refusal.the-variants.{Length, Form, Remote, Piece, Size}
 use Rattle.format.specs.Refusals.{Result, value, refused, number}
 use Rattle.format.specs.Tables.{AllHold}
 use Rattle.frame.specs.Judge.{Judged, judge}
@@ -40,8 +41,9 @@ table =
     ∷ judges Extended (0x91 ∷ 0x45 ∷ 0x00 ∷ 0xC1 ∷ 0x10 ∷ 0x07 ∷ []) (refused (number Form))
     ∷ judges Extended (0xD1 ∷ 0x45 ∷ 0x00 ∷ 0xC1 ∷ 0x10 ∷ 0x07 ∷ []) (refused (number Form))
     ∷ judges Extended (0xC1 ∷ 0x45 ∷ 0x00 ∷ 0xC1 ∷ 0x10 ∷ 0x07 ∷ []) (refused (number Remote))
-    -- 89 before 8 data bytes: COUNT. 4 or 14 bytes: LENGTH
-    ∷ judges Extended (0x89 ∷ 0x45 ∷ 0x00 ∷ 0xC0 ∷ 0x10 ∷ 1 ∷ 2 ∷ 3 ∷ 4 ∷ 5 ∷ 6 ∷ 7 ∷ 8 ∷ []) (refused (number Count))
+    -- 89 before 8 data bytes: sound (L3; COUNT in document 01). 4 or 14 bytes: LENGTH
+    ∷ judges Extended (0x89 ∷ 0x45 ∷ 0x00 ∷ 0xC0 ∷ 0x10 ∷ 1 ∷ 2 ∷ 3 ∷ 4 ∷ 5 ∷ 6 ∷ 7 ∷ 8 ∷ [])
+    (sound (fields.Extended 1 5 0 0 2) Single 0 (1 ∷ 2 ∷ 3 ∷ 4 ∷ 5 ∷ 6 ∷ 7 ∷ 8 ∷ []) 5)
     ∷ judges Extended (0x81 ∷ 0x45 ∷ 0x00 ∷ 0xC0 ∷ []) (refused (number Length))
     ∷ judges Extended (0x81 ∷ 0x45 ∷ 0x00 ∷ 0xC0 ∷ 0x10 ∷ 1 ∷ 2 ∷ 3 ∷ 4 ∷ 5 ∷ 6 ∷ 7 ∷ 8 ∷ 9 ∷ []) (refused (number Length))
     -- standard 96 E3 and three bytes: priority 2, address 22, side 1, single

@@ -55,7 +55,7 @@ unfolding Carrying
 judged-carries format image judged e =
     let i = sound-image format image judged e in
     rw (i .carried, i .start-is)
-    (carries format (judged .frame .flag) (layout format image .count) (judged .frame .number) (length image) (i .rule) (i .size))
+    (carries format (judged .frame .flag) _ (judged .frame .number) (length image) (i .rule) (i .size))
 
 -- ---- a step keeps both
 

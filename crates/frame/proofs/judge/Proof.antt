@@ -2,7 +2,7 @@
 use borrow.Author.Needs.{needs}
 use mathlib.Core.Path.{refl}
 use native.Mathlib.Omega.{arith}
-use Rattle.frame.proofs.JudgeLaws.{too-short, too-long, misformed, remote, over-eight, other-count, unruled, ruled}
+use Rattle.frame.proofs.JudgeLaws.{too-short, too-long, misformed, remote, other-count, unruled, ruled}
 use Rattle.frame.proofs.judge.Statement.{statement}
 use Rattle.frame.proofs.judge.Tie as tie
 
@@ -45,22 +45,14 @@ returns-4 c =
     remote (a .format) (a .image .now) _ (c3 .layout-of .ensures) _ (c6 .header-size .ensures) (omega arith)
     (omega arith) (c1 .if3 .left) (c .if4 .taken)
 
-returns-5 : tie.Need-returns-5
-returns-5 c =
-    let c1 = c .before in
-    let c2 = c1 .before in
-    let c4 = c2 .before .before in
-    let c7 = c4 .before .before .before in
-    let c9 = c7 .before .before in
-    let a = c9 .args in
-    over-eight (a .format) (a .image .now) _ (c4 .layout-of .ensures) _ (c7 .header-size .ensures) (omega arith)
-    (omega arith) (c2 .if3 .left) (c1 .if4 .left) (omega arith)
+data-count-requires : tie.Need-data-count-requires
+data-count-requires c κs = search needs
 
 wide-requires : tie.Need-wide-requires
 wide-requires c κs = search needs
 
-returns-6 : tie.Need-returns-6
-returns-6 c =
+returns-5 : tie.Need-returns-5
+returns-5 c =
     let c1 = c .before in
     let c3 = c1 .before .before in
     let c4 = c3 .before in
@@ -69,10 +61,25 @@ returns-6 c =
     let c11 = c9 .before .before in
     let a = c11 .args in
     other-count (a .format) (a .image .now) _ (c6 .layout-of .ensures) _ (c9 .header-size .ensures) (omega arith)
-    (omega arith) (c4 .if3 .left) (c3 .if4 .left) (omega arith) _ (c1 .wide .ensures) (λ q. omega arith)
+    (omega arith) (c4 .if3 .left) (c3 .if4 .left) _ (c1 .before .data-count .ensures) _ (c1 .wide .ensures) (λ q. omega arith)
 
 piece-rule-requires : tie.Need-piece-rule-requires
 piece-rule-requires c κs = search needs
+
+returns-6 : tie.Need-returns-6
+returns-6 c =
+    let c1 = c .before in
+    let c2 = c1 .before in
+    let c3 = c2 .before in
+    let c5 = c3 .before .before in
+    let c6 = c5 .before in
+    let c8 = c6 .before .before in
+    let c11 = c8 .before .before .before in
+    let c13 = c11 .before .before in
+    let a = c13 .args in
+    unruled (a .format) (a .image .now) _ (c8 .layout-of .ensures) _ (c11 .header-size .ensures) (omega arith)
+    (omega arith) (c6 .if3 .left) (c5 .if4 .left) _ (c3 .before .data-count .ensures) _ (c3 .wide .ensures) (omega arith) _
+    (c1 .piece-rule .ensures) (c .if6 .taken)
 
 returns-7 : tie.Need-returns-7
 returns-7 c =
@@ -85,24 +92,9 @@ returns-7 c =
     let c11 = c8 .before .before .before in
     let c13 = c11 .before .before in
     let a = c13 .args in
-    unruled (a .format) (a .image .now) _ (c8 .layout-of .ensures) _ (c11 .header-size .ensures) (omega arith)
-    (omega arith) (c6 .if3 .left) (c5 .if4 .left) (omega arith) _ (c3 .wide .ensures) (omega arith) _
-    (c1 .piece-rule .ensures) (c .if7 .taken)
-
-returns-8 : tie.Need-returns-8
-returns-8 c =
-    let c1 = c .before in
-    let c2 = c1 .before in
-    let c3 = c2 .before in
-    let c5 = c3 .before .before in
-    let c6 = c5 .before in
-    let c8 = c6 .before .before in
-    let c11 = c8 .before .before .before in
-    let c13 = c11 .before .before in
-    let a = c13 .args in
     ruled (a .format) (a .image .now) _ (c8 .layout-of .ensures) _ (c11 .header-size .ensures) (omega arith)
-    (omega arith) (c6 .if3 .left) (c5 .if4 .left) (omega arith) _ (c3 .wide .ensures) (omega arith) _
-    (c1 .piece-rule .ensures) (c .if7 .left)
+    (omega arith) (c6 .if3 .left) (c5 .if4 .left) _ (c3 .before .data-count .ensures) _ (c3 .wide .ensures) (omega arith) _
+    (c1 .piece-rule .ensures) (c .if6 .left)
 
 pub judge-spec : {M : Type 1} → statement M
 judge-spec =
@@ -114,9 +106,9 @@ judge-spec =
     layout-of-requires
     returns-3
     returns-4
-    returns-5
+    data-count-requires
     wide-requires
-    returns-6
+    returns-5
     piece-rule-requires
-    returns-7
-    returns-8)
+    returns-6
+    returns-7)
