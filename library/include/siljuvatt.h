@@ -103,7 +103,7 @@ SILJUVATT_USE_ANSWER uint32_t siljuvatt_version(void);
     REFUSAL(LENGTH, 1, "the image's length is outside its format's range") \
     REFUSAL(FORM, 2, "fixed bits of an extended image are wrong") \
     REFUSAL(REMOTE, 3, "RTR is 1") \
-    REFUSAL(COUNT, 4, "the count is over 8, or not what the image's length says") \
+    REFUSAL(COUNT, 4, "the image's length is not what its count says; a count of 9 to 15 says 8") \
     REFUSAL(PIECE, 5, "a rule on flag, number and count is broken") \
     REFUSAL(ORPHAN, 6, "a middle or an end while its stream is not collecting") \
     REFUSAL(STEP, 7, "another number than awaited; the stream is idle now") \
@@ -173,8 +173,8 @@ static inline const char *siljuvatt_refusal_text(uint32_t refusal)
 SILJUVATT_USE_ANSWER uint32_t siljuvatt_piece_count(uint8_t format, size_t size);
 
 /*
- * Writes the image of piece k over the head of the output and answers its length; the rest of the output stays.
- * Refuses: FIELD, SIZE, INDEX, ROOM.
+ * Writes the image of piece k over the head of the output and answers its length; the rest of the output stays. The
+ * count in it is how many data bytes it has, at most 8. Refuses: FIELD, SIZE, INDEX, ROOM.
  */
 SILJUVATT_USE_ANSWER uint32_t siljuvatt_write_piece(uint8_t format, const uint8_t *fields, size_t fields_length,
                                                     const uint8_t *packet, size_t packet_length, size_t k,
@@ -220,8 +220,10 @@ SILJUVATT_USE_ANSWER uint32_t siljuvatt_close(uint8_t *station, size_t station_l
  *   SILJUVATT_KEPT      more of the packet is awaited
  *   SILJUVATT_FILTERED  no slot is open with the frame's key; nothing is stored
  * SILJUVATT_BROKE(answer) is 1 if an older packet of the stream was not whole and is dropped. Only the record and the
- * area of the slot with the frame's key are written to. Refuses: STATE, STORE, FIELD (the bus), LENGTH, FORM, REMOTE,
- * COUNT, PIECE, ORPHAN, STEP, LONG.
+ * area of the slot with the frame's key are written to.
+ * A count of 9 to 15 in the image is read as 8, in both formats: it says eight data bytes (ISO 11898-1, classical CAN),
+ * of which a standard start, middle or end has its number first. Nothing keeps which count it was.
+ * Refuses: STATE, STORE, FIELD (the bus), LENGTH, FORM, REMOTE, COUNT, PIECE, ORPHAN, STEP, LONG.
  */
 SILJUVATT_USE_ANSWER uint32_t siljuvatt_receive(uint8_t *station, size_t station_length, uint8_t *store,
                                                 size_t store_length, uint8_t bus, const uint8_t *image,

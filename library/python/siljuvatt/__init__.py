@@ -136,7 +136,7 @@ class Refusal(IntEnum):
     LENGTH = 1, "the image's length is outside its format's range"
     FORM = 2, "fixed bits of an extended image are wrong"
     REMOTE = 3, "RTR is 1"
-    COUNT = 4, "the count is over 8, or not what the image's length says"
+    COUNT = 4, "the image's length is not what its count says; a count of 9 to 15 says 8"
     PIECE = 5, "a rule on flag, number and count is broken"
     ORPHAN = 6, "a middle or an end while its stream is not collecting"
     STEP = 7, "another number than awaited; the stream is idle now"
@@ -426,7 +426,8 @@ def piece_count(format: int, size: int) -> int:
 def write_piece(format: int, fields: Fields, packet: Any, k: int, output: Any) -> int:
     """Writes the image of piece k over the head of a writable buffer and returns its length.
 
-    The rest of the output stays. Refused: FIELD, SIZE, INDEX, ROOM.
+    The rest of the output stays. The count in the image is how many data bytes it has, at most 8. Refused: FIELD, SIZE,
+    INDEX, ROOM.
     """
     answer = _library().siljuvatt_write_piece(
         _byte(format), *_field_bytes(fields), *_given(packet), _any_size(k), *_writable(output))
@@ -529,6 +530,8 @@ class Station:
     def receive(self, bus: int, image: Any) -> Reply:
         """Receives the image of a frame on a bus: Packet, Kept or Filtered.
 
+        A count of 9 to 15 in the image is read as 8, in both formats: it says eight data bytes (ISO 11898-1, classical
+        CAN), of which a standard start, middle or end has its number first. Nothing keeps which count it was.
         Refused: STORE, FIELD (the bus), LENGTH, FORM, REMOTE, COUNT, PIECE, ORPHAN, STEP, LONG.
         """
         answer = _accepted(_library().siljuvatt_receive(

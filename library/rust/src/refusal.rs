@@ -75,7 +75,7 @@ refusals! {
     Length = 1, "LENGTH", "the image's length is outside its format's range";
     Form = 2, "FORM", "fixed bits of an extended image are wrong";
     Remote = 3, "REMOTE", "RTR is 1";
-    Count = 4, "COUNT", "the count is over 8, or not what the image's length says";
+    Count = 4, "COUNT", "the image's length is not what its count says; a count of 9 to 15 says 8";
     Piece = 5, "PIECE", "a rule on flag, number and count is broken";
     Orphan = 6, "ORPHAN", "a middle or an end while its stream is not collecting";
     Step = 7, "STEP", "another number than awaited; the stream is idle now";

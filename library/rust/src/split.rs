@@ -24,7 +24,7 @@ pub fn piece_count(format: Format, size: usize) -> Result<usize, Refusal> {
 }
 
 /// Writes the image of piece `k` of a packet over the head of the output and answers its length. The rest of the output
-/// stays.
+/// stays. The count in the image is how many data bytes it has, at most 8.
 ///
 /// # Errors
 ///

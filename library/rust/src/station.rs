@@ -137,6 +137,25 @@ impl Station {
 
     /// Receives the image of a frame on a bus. Only the area of the slot with the frame's key is written to.
     ///
+    /// A count of 9 to 15 in the image is read as 8, in both formats: it says eight data bytes (ISO 11898-1, classical
+    /// CAN), of which a standard start, middle or end has its number first. Nothing keeps which count it was.
+    ///
+    /// ```
+    /// use siljuvatt::{Bus, Fields, Format, Key, Refusal, Reply, Station, Store};
+    ///
+    /// let mut station = Station::new(Format::Extended);
+    /// let mut store = Store::new();
+    /// let fields = Fields::Extended { priority: 0, source: 6, group: 0, destination: 0, function: 2 };
+    /// let slot = station.open(Key { bus: Bus::B, fields })?;
+    ///
+    /// // A count of 12 before eight data bytes, and before seven.
+    /// let reply = station.receive(&mut store, Bus::B, b"\x8C\x06\x00\xC0\x1000412701")?;
+    /// assert_eq!(reply, Reply::Packet { length: 8, broke: false });
+    /// assert_eq!(station.read(&store, slot)?, b"00412701");
+    /// assert_eq!(station.receive(&mut store, Bus::B, b"\x8C\x06\x00\xC0\x100041270"), Err(Refusal::Count));
+    /// # Ok::<(), Refusal>(())
+    /// ```
+    ///
     /// # Errors
     ///
     /// In this order: [`Refusal::Store`]; of the image [`Refusal::Length`], [`Refusal::Form`], [`Refusal::Remote`],
