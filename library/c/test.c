@@ -1,6 +1,7 @@
 /*
  * What the example does not show: no bytes at all (NULL, 0) wherever the header allows them, lengths that are none,
- * filters, the order of refusals, and the bytes of states. Prints each check that fails and ends with 1 if one does.
+ * filters, the order of refusals, the bytes of states, and counts of 9 to 15. Prints each check that fails and ends
+ * with 1 if one does.
  */
 #include "siljuvatt.h"
 
@@ -169,6 +170,133 @@ static void bytes_as_described(void)
     SAME((uint32_t)memcmp(watch, "\1\2\3\4\5\6\7\x08\1", 9), 0);
 }
 
+/* What an image of a format has where. */
+struct format {
+    uint8_t number;
+    size_t header;    /* bytes before the data */
+    size_t count_at;  /* the byte whose low half is the count .. */
+    uint8_t rtr;      /* .. and that has this bit */
+    size_t limit;
+    size_t fields_length;
+    uint8_t fields[SILJUVATT_EXTENDED_FIELDS];
+};
+
+static const struct format extended = {
+    SILJUVATT_EXTENDED, 5, 0, 0x40, SILJUVATT_EXTENDED_LIMIT, SILJUVATT_EXTENDED_FIELDS, {1, 5, 0, 0, 2},
+};
+static const struct format standard = {
+    SILJUVATT_STANDARD, 2, 1, 0x10, SILJUVATT_STANDARD_LIMIT, SILJUVATT_STANDARD_FIELDS, {2, 22, 1},
+};
+
+/* An image with eight data bytes and a count of 8, and its answer where the stream is idle, or has a start. */
+struct filled {
+    const struct format *format;
+    bool after_start;
+    uint32_t answer;
+    uint8_t image[SILJUVATT_EXTENDED_IMAGE + 1]; /* and a ninth */
+};
+
+#define KIND(kind) ((uint32_t)(kind) << 16)
+#define DATA 1, 2, 3, 4, 5, 6, 7, 8, 9
+
+static const struct filled filled[] = {
+    {&extended, false, KIND(SILJUVATT_PACKET) + 8, {0x88, 0x45, 0x00, 0xC0, 0x10, DATA}},
+    {&extended, false, KIND(SILJUVATT_KEPT), {0x88, 0x45, 0x00, 0x40, 0x10, DATA}},
+    {&extended, true, KIND(SILJUVATT_KEPT), {0x88, 0x45, 0x00, 0x01, 0x10, DATA}},
+    {&extended, true, KIND(SILJUVATT_PACKET) + 16, {0x88, 0x45, 0x00, 0x81, 0x10, DATA}},
+    {&standard, false, KIND(SILJUVATT_PACKET) + 8, {0x96, 0xE8, DATA}},
+    {&standard, false, KIND(SILJUVATT_KEPT), {0x96, 0xA8, 0, DATA}},
+    {&standard, true, KIND(SILJUVATT_KEPT), {0x96, 0x88, DATA}}, /* number 1 */
+    {&standard, true, KIND(SILJUVATT_PACKET) + 14, {0x96, 0xC8, DATA}},
+};
+
+#define RECEIVE(image, length) siljuvatt_receive(station, sizeof station, store, sizeof store, 0, image, length)
+
+/* A station with one stream, idle or with a start. */
+static void begin(const struct format *format, bool after_start)
+{
+    uint8_t start[SILJUVATT_EXTENDED_IMAGE];
+    uint8_t packet[9] = {0};
+
+    memset(store, 0xEE, sizeof store);
+    SAME(siljuvatt_station_new(station, sizeof station, format->number), 0);
+    SAME(siljuvatt_open(station, sizeof station, 0, format->fields, format->fields_length), 0);
+    if (after_start) {
+        uint32_t length = siljuvatt_write_piece(format->number, format->fields, format->fields_length, packet,
+                                                sizeof packet, 0, start, sizeof start);
+        SAME(RECEIVE(start, length), KIND(SILJUVATT_KEPT));
+    }
+}
+
+/* A count of 9 to 15 is read as 8: answer, station and store are as with 8. */
+static void read_as_8(const struct filled *piece, uint8_t count)
+{
+    static uint8_t station_with_8[sizeof station], store_with_8[sizeof store];
+    const struct format *format = piece->format;
+    uint8_t image[sizeof piece->image];
+
+    memcpy(image, piece->image, sizeof image);
+    begin(format, piece->after_start);
+    SAME(RECEIVE(image, format->header + 8), piece->answer);
+    memcpy(station_with_8, station, sizeof station);
+    memcpy(store_with_8, store, sizeof store);
+
+    image[format->count_at] = (uint8_t)((image[format->count_at] & 0xF0) | count);
+    begin(format, piece->after_start);
+    SAME(RECEIVE(image, format->header + 8), piece->answer);
+    SAME((uint32_t)memcmp(station, station_with_8, sizeof station), 0);
+    SAME((uint32_t)memcmp(store, store_with_8, sizeof store), 0);
+
+    /* Other lengths, and what is refused before them. */
+    begin(format, piece->after_start);
+    REFUSED(RECEIVE(image, format->header + 7), SILJUVATT_REFUSAL_COUNT);
+    REFUSED(RECEIVE(image, format->header), SILJUVATT_REFUSAL_COUNT);
+    REFUSED(RECEIVE(image, format->header + 9), SILJUVATT_REFUSAL_LENGTH);
+    image[format->count_at] |= format->rtr;
+    REFUSED(RECEIVE(image, format->header + 9), SILJUVATT_REFUSAL_LENGTH);
+    REFUSED(RECEIVE(image, format->header + 8), SILJUVATT_REFUSAL_REMOTE);
+    REFUSED(RECEIVE(image, format->header + 7), SILJUVATT_REFUSAL_REMOTE);
+    if (format == &extended) {
+        image[0] |= 0x10;
+        REFUSED(RECEIVE(image, format->header + 7), SILJUVATT_REFUSAL_FORM);
+    }
+}
+
+/* The longest packet, whose pieces are all filled: written with 8, received with 9 to 15 in turn. */
+static void longest_read_as_8(const struct format *format)
+{
+    static uint8_t packet[SILJUVATT_EXTENDED_LIMIT];
+    size_t start = 7;
+
+    for (size_t i = 0; i < format->limit; i++) {
+        packet[i] = (uint8_t)(i + i / 256);
+    }
+    begin(format, false);
+    for (uint32_t k = 0; k < 256; k++) {
+        uint8_t image[SILJUVATT_EXTENDED_IMAGE];
+        uint32_t length = siljuvatt_write_piece(format->number, format->fields, format->fields_length, packet,
+                                                format->limit, k, image, sizeof image);
+        SAME(image[format->count_at] & 0x0F, 8);
+        image[format->count_at] = (uint8_t)((image[format->count_at] & 0xF0) | (9 + k % 7));
+        SAME(RECEIVE(image, length), k < 255 ? KIND(SILJUVATT_KEPT) : KIND(SILJUVATT_PACKET) + format->limit);
+    }
+    SAME(siljuvatt_read(station, sizeof station, store, sizeof store, 0, &start), format->limit);
+    SAME((uint32_t)start, 0);
+    SAME((uint32_t)memcmp(store, packet, format->limit), 0);
+}
+
+/* Request L3 of document 02, which overrules document 01. */
+static void counts_of_9_to_15(void)
+{
+    for (size_t i = 0; i < sizeof filled / sizeof filled[0]; i++) {
+        for (uint8_t count = 9; count <= 15; count++) {
+            read_as_8(&filled[i], count);
+        }
+    }
+    longest_read_as_8(&extended);
+    longest_read_as_8(&standard);
+}
+
 int main(void)
 {
     splitting_of_nothing();
@@ -178,6 +306,7 @@ int main(void)
     filters();
     unsound_stations();
     bytes_as_described();
+    counts_of_9_to_15();
     printf("%d checks, %d failed\n", checks, failures);
     return failures == 0 ? 0 : 1;
 }

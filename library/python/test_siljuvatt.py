@@ -100,9 +100,15 @@ class Document01(Case):
         self.assertEqual(largest.read_bytes(0), b"")
         for name, frame in [
                 ("PIECE", "81 45 00 C1 10 07"), ("FORM", "91 45 00 C0 10 07"), ("FORM", "D1 45 00 C0 10 07"),
-                ("REMOTE", "C1 45 00 C0 10 07"), ("COUNT", "89 45 00 C0 10 01 02 03 04 05 06 07 08"),
-                ("LENGTH", "81 45 00 C0"), ("LENGTH", "81" * 14)]:
+                ("REMOTE", "C1 45 00 C0 10 07"), ("LENGTH", "81 45 00 C0"), ("LENGTH", "81" * 14)]:
             self.unchanged(name, station, bytes.fromhex(frame))
+
+    def test_count_of_9_before_eight_data_bytes(self):
+        """COUNT in document 01, and sound by request L3 of document 02, which overrules it."""
+        station = self.station()
+        frame = bytes.fromhex("89 45 00 C0 10 01 02 03 04 05 06 07 08")
+        self.assertEqual(station.receive(Bus.A, frame), Packet(8, False))
+        self.assertEqual(station.read_bytes(0), bytes(range(1, 9)))
 
     def test_standard_images(self):
         station = self.station(Format.STANDARD, SLAVE)
@@ -316,6 +322,94 @@ class Receiving(Case):
         for bus in (2, 256, -1):
             self.refused("FIELD", Station().receive, bus, b"")
         self.refused("LENGTH", Station().receive, Bus.A, b"")
+
+
+class Counts(Case):
+    """Counts of 9 to 15 are read as 8: request L3 of document 02, which overrules document 01."""
+
+    CODES = range(9, 16)
+    DATA = " 01 02 03 04 05 06 07 08"
+    LAYOUT = {Format.EXTENDED: (0, 0x40, 5), Format.STANDARD: (1, 0x10, 2)}  # byte of the count, RTR in it, header
+
+    # Of each flag an image with eight data bytes and a count of 8, whether it comes after a start, and its answer.
+    FILLED = [
+        (Format.EXTENDED, BOARD, "88 45 00 C0 10" + DATA, False, Packet(8, False)),
+        (Format.EXTENDED, BOARD, "88 45 00 40 10" + DATA, False, KEPT),
+        (Format.EXTENDED, BOARD, "88 45 00 01 10" + DATA, True, KEPT),
+        (Format.EXTENDED, BOARD, "88 45 00 81 10" + DATA, True, Packet(16, False)),
+        (Format.STANDARD, SLAVE, "96 E8" + DATA, False, Packet(8, False)),
+        (Format.STANDARD, SLAVE, "96 A8 00" + DATA[:-3], False, KEPT),
+        (Format.STANDARD, SLAVE, "96 88" + DATA, True, KEPT),  # number 1
+        (Format.STANDARD, SLAVE, "96 C8" + DATA, True, Packet(14, False)),
+    ]
+
+    def with_count(self, format, frame, code):
+        at, _, _ = self.LAYOUT[format]
+        return self.edited(frame, at, frame[at] & 0xF0 | code)
+
+    def stations(self):
+        """Of each row: its format, what makes a station that awaits the image, the image, and its answer."""
+        for format, fields, frame, after_start, answer in self.FILLED:
+            def awaiting(format=format, fields=fields, after_start=after_start):
+                station = self.station(format, fields)
+                self.keep(station, split(fields, packet_of(9))[:after_start])
+                return station
+            yield format, awaiting, bytes.fromhex(frame), answer
+
+    def test_with_eight_data_bytes_all_is_as_with_8(self):
+        for format, awaiting, frame, answer in self.stations():
+            with_8 = awaiting()
+            self.assertEqual(with_8.receive(Bus.A, frame), answer)
+            for code in self.CODES:
+                station = awaiting()
+                self.assertEqual(station.receive(Bus.A, self.with_count(format, frame, code)), answer)
+                self.assertTrue(station == with_8, (frame, code))
+
+    def test_with_fewer_data_bytes_it_is_refused(self):
+        for format, awaiting, frame, _ in self.stations():
+            _, _, header = self.LAYOUT[format]
+            for code, size in itertools.product(self.CODES, (0, 1, 7)):
+                self.unchanged("COUNT", awaiting(), self.with_count(format, frame, code)[:header + size])
+
+    def test_length_form_and_remote_come_first(self):
+        for format, awaiting, frame, _ in self.stations():
+            at, rtr, _ = self.LAYOUT[format]
+            for code in self.CODES:
+                remote = self.edited(frame, at, frame[at] & 0xF0 | rtr | code)
+                self.unchanged("REMOTE", awaiting(), remote)
+                self.unchanged("REMOTE", awaiting(), remote[:-1])
+                self.unchanged("LENGTH", awaiting(), self.with_count(format, frame, code) + b"9")
+                if format == Format.EXTENDED:
+                    self.unchanged("FORM", awaiting(), self.edited(remote, 4, 0x11))
+                    self.unchanged("FORM", awaiting(), self.edited(remote, 0, 0xD0 | code)[:-1])
+
+    def test_piece_rules_come_after_it(self):
+        for format, fields, frame in [
+                (Format.EXTENDED, BOARD, "88 45 00 C1 10" + self.DATA),
+                (Format.EXTENDED, BOARD, "88 45 00 41 10" + self.DATA),
+                (Format.STANDARD, SLAVE, "96 A8" + self.DATA),
+                (Format.STANDARD, SLAVE, "96 88 00" + self.DATA[:-3]),
+                (Format.STANDARD, SLAVE, "96 88 FF" + self.DATA[:-3]),
+                (Format.STANDARD, SLAVE, "96 C8 00" + self.DATA[:-3])]:
+            station = self.station(format, fields)
+            for code in self.CODES:
+                broken = self.with_count(format, bytes.fromhex(frame), code)
+                self.unchanged("PIECE", station, broken)
+                self.unchanged("COUNT", station, broken[:-1])
+
+    def test_a_packet_comes_out_byte_for_byte(self):
+        """The longest packet, whose pieces are all filled: written with 8, received with 9 to 15 in turn."""
+        for format, fields in BOTH:
+            at, _, _ = self.LAYOUT[format]
+            packet = packet_of(LIMITS[format])
+            frames = split(fields, packet)
+            self.assertEqual({frame[at] & 0x0F for frame in frames}, {8})
+            *rest, last = [self.with_count(format, frame, code)
+                           for code, frame in zip(itertools.cycle(self.CODES), frames)]
+            station = self.station(format, fields)
+            self.keep(station, rest)
+            self.assertEqual(station.receive(Bus.A, last), Packet(LIMITS[format], False))
+            self.assertEqual(station.read_bytes(0), packet)
 
 
 class Streams(Case):

@@ -38,12 +38,17 @@ fn extended_images_refused() {
     bench.refuses(b"\x91\x45\x00\xC0\x10\x07", Refusal::Form);
     bench.refuses(b"\xD1\x45\x00\xC0\x10\x07", Refusal::Form);
     bench.refuses(b"\xC1\x45\x00\xC0\x10\x07", Refusal::Remote);
-    bench.refuses(
-        b"\x89\x45\x00\xC0\x10\x01\x02\x03\x04\x05\x06\x07\x08",
-        Refusal::Count,
-    );
     bench.refuses(b"\x81\x45\x00\xC0", Refusal::Length);
     bench.refuses(&[0x81; 14], Refusal::Length);
+}
+
+/// COUNT in document 01, and sound by request L3 of document 02, which overrules it.
+#[test]
+fn a_count_of_9_before_eight_data_bytes() {
+    let mut bench = Bench::new(extended_fields(5, 2));
+    let image = b"\x89\x45\x00\xC0\x10\x01\x02\x03\x04\x05\x06\x07\x08";
+    assert_eq!(bench.receive(image), whole(8));
+    assert_eq!(bench.read(), Ok(&[1, 2, 3, 4, 5, 6, 7, 8][..]));
 }
 
 #[test]

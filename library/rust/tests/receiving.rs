@@ -317,7 +317,7 @@ fn standard_images_refused_in_their_order() {
     bench.refuses(&[0x96; 11], Refusal::Length);
     bench.refuses(b"\x96\xFF", Refusal::Remote); // RTR before a count of 15
     bench.refuses(b"\x96\xEF", Refusal::Count);
-    bench.refuses(b"\x96\xE9\x01\x02\x03\x04\x05\x06\x07\x08", Refusal::Count);
+    bench.refuses(b"\x96\xE9\x01\x02\x03\x04\x05\x06\x07", Refusal::Count);
     bench.refuses(b"\x96\xE2\x01", Refusal::Count);
     bench.refuses(b"\x96\xA1\x00", Refusal::Piece);
 }
