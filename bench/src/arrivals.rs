@@ -118,6 +118,15 @@ fn bent(format: Format, (at, bits): (usize, u8)) -> Vec<Vec<u8>> {
     images
 }
 
+/// The single of 8 bytes for the last slot, with another count.
+fn counted(format: Format, count: u8) -> Vec<Vec<u8>> {
+    let at = match format {
+        Format::Extended => 0,
+        Format::Standard => 1,
+    };
+    bent(format, (at, 8 ^ count))
+}
+
 /// One piece of a packet of that size for the last slot.
 fn piece_of(format: Format, size: usize, k: usize) -> Vec<Vec<u8>> {
     vec![images_of(format, LAST, size).swap_remove(k)]
@@ -179,9 +188,11 @@ fn taken(format: Format) -> Vec<Row> {
     let single = |slot, size| Arrival::anew(&idle, images_of(format, slot, size));
     let next = |size| Arrival::anew(&collecting, piece_of(format, size, 1));
     let start = Arrival::anew(&idle, piece_of(format, 64, 0));
+    let with_12 = Arrival::anew(&idle, counted(format, 12));
     vec![
         row(Packet, "a single of 8 for slot 0", single(0, 8)),
         row(Packet, "a single of 8 for slot 15", single(LAST, 8)),
+        row(Packet, "a single of 8 with count 12", with_12),
         row(Packet, "a single of 0 for slot 15", single(LAST, 0)),
         row(Kept, "a start", start),
         row(Kept, "a middle", next(64)),
@@ -201,12 +212,12 @@ fn refused(format: Format) -> Vec<Row> {
         Format::Extended => rows.extend([
             refusal(Refusal::Form, wrong((4, 1))),
             refusal(Refusal::Remote, wrong((0, 0x40))),
-            refusal(Refusal::Count, wrong((0, 1))),
+            refusal(Refusal::Count, on_idle(counted(format, 7))),
             refusal(Refusal::Piece, wrong((3, 1))),
         ]),
         Format::Standard => rows.extend([
             refusal(Refusal::Remote, wrong((1, 0x10))),
-            refusal(Refusal::Count, wrong((1, 1))),
+            refusal(Refusal::Count, on_idle(counted(format, 7))),
             refusal(Refusal::Piece, wrong((1, 0x20))),
         ]),
     }

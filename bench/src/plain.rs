@@ -149,6 +149,11 @@ fn judge(format: Format, image: &[u8]) -> Result<Frame<'_>, Refusal> {
     }
 }
 
+/// How many data bytes a count says: from 8 on, eight.
+fn data_count(count: u8) -> usize {
+    usize::from(count.min(8))
+}
+
 fn judge_extended(image: &[u8]) -> Result<Frame<'_>, Refusal> {
     let [b0, b1, b2, b3, b4, bytes @ ..] = image else {
         return Err(Refusal::Length);
@@ -162,8 +167,7 @@ fn judge_extended(image: &[u8]) -> Result<Frame<'_>, Refusal> {
     if b0 & 0x40 != 0 {
         return Err(Refusal::Remote);
     }
-    // A count over 8 is not the number of data bytes either.
-    if usize::from(b0 & 15) != bytes.len() {
+    if data_count(b0 & 15) != bytes.len() {
         return Err(Refusal::Count);
     }
     let flag = Flag::from_bits(b3 >> 6);
@@ -205,7 +209,7 @@ fn judge_standard(image: &[u8]) -> Result<Frame<'_>, Refusal> {
     if b1 & 0x10 != 0 {
         return Err(Refusal::Remote);
     }
-    if usize::from(b1 & 15) != data.len() {
+    if data_count(b1 & 15) != data.len() {
         return Err(Refusal::Count);
     }
     let flag = Flag::from_bits(b1 >> 5);

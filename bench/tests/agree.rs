@@ -257,6 +257,51 @@ fn traffic_is_received_alike() {
     }
 }
 
+/// The place of the byte whose low half is the count, and the bytes before the data.
+fn layout(format: Format) -> (usize, usize) {
+    match format {
+        Format::Extended => (0, 5),
+        Format::Standard => (1, 2),
+    }
+}
+
+/// Every count before 0 to 9 data bytes, of each piece of a packet of three and of a single; answers with which count
+/// and how many data bytes a single was taken.
+fn counts(format: Format, fault: &'static str) -> Vec<(u8, usize)> {
+    let (at, header) = layout(format);
+    let fields = fields_at(format, 0);
+    let mut bench = Bench::new(format, fault);
+    bench.open(Key { bus: 0, fields });
+    let mut singles = Vec::new();
+    for (size, k) in [(8, 0), (24, 0), (24, 1), (20, 2)] {
+        let mut image = vec![0; 13];
+        let length = split::write_piece(fields, &[7; 24][..size], k, &mut image).expect("a piece");
+        image.truncate(length);
+        image.resize(header + 9, 8);
+        for count in 0..16 {
+            image[at] = image[at] & 0xF0 | count;
+            for data in 0..=9 {
+                let answer = bench.receive(0, &image[..header + data]);
+                bench.check_states();
+                if size == 8 && kind_of(answer) == PACKET << 16 {
+                    singles.push((count, data));
+                }
+            }
+        }
+    }
+    bench.check_stores();
+    singles
+}
+
+#[test]
+fn counts_are_read_alike() {
+    let said = |count: u8| (count, usize::from(count.min(8)));
+    let expected: Vec<_> = (0..16).map(said).collect();
+    for format in FORMATS {
+        assert_eq!(counts(format, ""), expected);
+    }
+}
+
 /// Bytes that are no sound station, and some that are; answers how many were.
 fn states(turns: usize, fault: &'static str) -> usize {
     let mut random = Random::new(7);
