@@ -17,7 +17,6 @@ use Rattle.format.specs.declared.Refusal.the-variants as refusal
 use Rattle.format.specs.Formats.{pieceSize, numberRange, headerSize, packetStart}
 use Rattle.format.specs.Refusals.{value, refused, number}
 use Rattle.format.proofs.Tests.{each, from-each, tests}
-use Rattle.frame.specs.Layout.{layout}
 use Rattle.frame.specs.Judge.{Frame, Judged, pieceRule, judge}
 use Rattle.frame.proofs.Judged.{sound-image}
 use Rattle.stream.specs.declared.Progress.{Progress}
