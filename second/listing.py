@@ -74,6 +74,14 @@ def piece_is_sound(flag, number, count):
     return count >= 1  # an end carries at least one packet byte
 
 
+def count_of(image):
+    """Return the count of an image's data bytes that its code stands for.
+
+    L3 overrules document 01, which refuses the codes 9 to 15: they mean 8.
+    """
+    return min(image[0] & 0b1111, MOST_DATA)
+
+
 def judge_image(image):
     """Return the lowest refusal number of 1 to 5 that applies, or 0."""
     if not HEADER_SIZE <= len(image) <= HEADER_SIZE + MOST_DATA:
@@ -83,8 +91,7 @@ def judge_image(image):
         return FORM
     if first & 0b0100_0000:
         return REMOTE
-    count = first & 0b1111
-    # A count over 8 fails here too, as the length is in range already.
+    count = count_of(image)
     if len(image) != HEADER_SIZE + count:
         return COUNT
     if not piece_is_sound(image[3] >> 6, image[3] & 63, count):
@@ -144,7 +151,7 @@ def list_record(record, bus, image, streams):
     group, dest = image[2] >> 6, image[2] & 63
     flag, number = image[3] >> 6, image[3] & 63
     function = image[4] >> 3
-    count = image[0] & 0b1111
+    count = count_of(image)
     key = bus, priority, source, group, dest, function
     answer = streams.receive(key, flag, number, count)
     return (

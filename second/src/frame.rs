@@ -37,7 +37,8 @@ pub struct Frame<'a> {
     pub flag: Flag,
     /// The piece number; 0 in a single piece.
     pub number: u8,
-    /// The count of data bytes, a standard number byte included.
+    /// The count of data bytes, a standard number byte included; 8 for every
+    /// code over 8.
     pub count: u8,
     /// The packet's bytes, without a standard number byte.
     pub packet: &'a [u8],
@@ -127,10 +128,13 @@ fn judge_standard<'a>(header: &[u8], data: &'a [u8]) -> Result<Frame<'a>, Refusa
     })
 }
 
-/// The count in the low four bits, if it is that of the data bytes at hand.
+/// The count of the code in the low four bits, if it is that of the data
+/// bytes at hand.
 fn judge_count(byte: u8, data: &[u8]) -> Result<u8, Refusal> {
-    let count = byte & 0b1111;
-    if usize::from(count) > MAX_COUNT || usize::from(count) != data.len() {
+    // L3 overrules document 01, which refuses the codes 9 to 15: they are read
+    // as 8, here and thus in the piece rules.
+    let count = (byte & 0b1111).min(MAX_COUNT as u8);
+    if usize::from(count) != data.len() {
         return Err(Refusal::Count);
     }
     Ok(count)
@@ -152,21 +156,129 @@ mod tests {
         refusal(Format::Standard, image)
     }
 
-    /// A standard image of count data bytes, the first of them the number.
-    fn standard_piece(flag: Flag, count: u8, number: u8) -> Vec<u8> {
-        let mut image = vec![0x00, flag.bits() << 5 | count];
-        image.resize(2 + usize::from(count), 0x55);
-        if count > 0 {
-            image[2] = number;
-        }
-        image
+    const EXTENDED_0: Fields = Fields::Extended {
+        priority: 0,
+        source: 0,
+        group: 0,
+        destination: 0,
+        function: 0,
+    };
+    const STANDARD_0: Fields = Fields::Standard {
+        priority: 0,
+        address: 0,
+        side: 0,
+    };
+
+    /// A piece, also one that breaks rules.
+    #[derive(Clone, Copy, Debug)]
+    struct Piece {
+        format: Format,
+        flag: Flag,
+        /// The four bits of the count, as they are.
+        code: u8,
+        number: u8,
+        /// How many data bytes there are, a standard number byte included.
+        size: usize,
     }
 
-    /// An extended image of count data bytes.
-    fn extended_piece(flag: Flag, count: u8, number: u8) -> Vec<u8> {
-        let mut image = vec![0x80 | count, 0, 0, flag.bits() << 6 | number, 0];
-        image.resize(5 + usize::from(count), 0x55);
-        image
+    impl Piece {
+        /// Its image, of which the other fields are 0.
+        fn image(&self) -> Vec<u8> {
+            let mut data = [0x51, 0x52, 0x53, 0x54, 0x55, 0x56, 0x57, 0x58, 0x59];
+            let mut image = match self.format {
+                Format::Extended => {
+                    let flag_and_number = self.flag_bits() << 6 | self.number;
+                    vec![0x80 | self.code, 0, 0, flag_and_number, 0]
+                }
+                Format::Standard => {
+                    data[0] = self.number;
+                    vec![0, self.flag_bits() << 5 | self.code]
+                }
+            };
+            image.extend_from_slice(&data[..self.size]);
+            image
+        }
+
+        fn flag_bits(&self) -> u8 {
+            match self.flag {
+                Flag::Start => 0b01,
+                Flag::Middle => 0b00,
+                Flag::End => 0b10,
+                Flag::Single => 0b11,
+            }
+        }
+
+        /// The answer in the words of document 01 and L3: "received counts 9
+        /// to 15 are read as 8, in both formats, before the piece rules".
+        fn expected<'a>(&self, image: &'a [u8]) -> Result<Frame<'a>, Refusal> {
+            let count = match self.code {
+                9..=15 => 8,
+                code => code,
+            };
+            if self.size > 8 {
+                Err(Refusal::Length)
+            } else if self.size != usize::from(count) {
+                Err(Refusal::Count)
+            } else if !self.keeps_the_piece_rule(count) {
+                Err(Refusal::Piece)
+            } else {
+                Ok(self.frame(count, image))
+            }
+        }
+
+        fn keeps_the_piece_rule(&self, count: u8) -> bool {
+            match (self.format, self.flag, self.number) {
+                (Format::Extended, Flag::Single, number) => number == 0,
+                (Format::Standard, Flag::Single, _) => true,
+                (_, Flag::Start, number) => count == 8 && number == 0,
+                (Format::Extended, Flag::Middle, _) => count == 8,
+                (Format::Standard, Flag::Middle, 1..=254) => count == 8,
+                (Format::Standard, Flag::Middle, _) => false,
+                (Format::Extended, Flag::End, _) => (1..=8).contains(&count),
+                (Format::Standard, Flag::End, 0) => false,
+                (Format::Standard, Flag::End, 1) => (3..=8).contains(&count),
+                (Format::Standard, Flag::End, _) => (2..=8).contains(&count),
+            }
+        }
+
+        /// The frame, if the image is sound.
+        fn frame<'a>(&self, count: u8, image: &'a [u8]) -> Frame<'a> {
+            let (fields, number, packet) = match (self.format, self.flag) {
+                (Format::Extended, _) => (EXTENDED_0, self.number, &image[5..]),
+                (Format::Standard, Flag::Single) => (STANDARD_0, 0, &image[2..]),
+                (Format::Standard, _) => (STANDARD_0, self.number, &image[3..]),
+            };
+            Frame {
+                fields,
+                flag: self.flag,
+                number,
+                count,
+                packet,
+            }
+        }
+    }
+
+    /// Every piece of a format, also with one data byte more than there may be.
+    fn every_piece(format: Format) -> Vec<Piece> {
+        let numbers = match format {
+            Format::Extended => 0..=63,
+            Format::Standard => 0..=255,
+        };
+        let mut pieces = Vec::new();
+        for flag in [Flag::Middle, Flag::Start, Flag::End, Flag::Single] {
+            for code in 0..=15 {
+                for size in 0..=9 {
+                    pieces.extend(numbers.clone().map(|number| Piece {
+                        format,
+                        flag,
+                        code,
+                        number,
+                        size,
+                    }));
+                }
+            }
+        }
+        pieces
     }
 
     #[test]
@@ -231,10 +343,8 @@ mod tests {
 
     #[test]
     fn extended_count_and_length() {
-        let mut image = vec![0x89, 0x45, 0x00, 0xC0, 0x10];
+        let mut image = vec![0x88, 0x45, 0x00, 0xC0, 0x10];
         image.resize(13, 0);
-        assert_eq!(extended(&image), Some(Refusal::Count));
-        image[0] = 0x88;
         assert_eq!(extended(&image), None);
         image.push(0);
         assert_eq!(extended(&image), Some(Refusal::Length));
@@ -245,20 +355,38 @@ mod tests {
     }
 
     #[test]
-    fn extended_piece_rules() {
-        for count in 0..=8 {
-            for number in 0..=63 {
-                for (flag, obeys) in [
-                    (Flag::Single, number == 0),
-                    (Flag::Start, count == 8 && number == 0),
-                    (Flag::Middle, count == 8),
-                    (Flag::End, count != 0),
-                ] {
-                    let expected = (!obeys).then_some(Refusal::Piece);
-                    let image = extended_piece(flag, count, number);
-                    assert_eq!(extended(&image), expected, "{image:02X?}");
-                }
+    fn every_code_with_every_length_flag_and_number() {
+        for format in [Format::Extended, Format::Standard] {
+            for piece in every_piece(format) {
+                let image = piece.image();
+                assert_eq!(judge(format, &image), piece.expected(&image), "{piece:?}");
             }
+        }
+    }
+
+    #[test]
+    fn the_case_89_of_document_01_is_sound_by_l3() {
+        let image = [0x89, 0x45, 0x00, 0xC0, 0x10, 1, 2, 3, 4, 5, 6, 7, 8];
+        let frame = judge(Format::Extended, &image).unwrap();
+        assert_eq!((frame.count, frame.packet), (8, &image[5..]));
+        assert_eq!(extended(&image[..12]), Some(Refusal::Count));
+        let piece = [0x8C, 0x45, 0x00, 0xC1, 0x10, 1, 2, 3, 4, 5, 6, 7, 8];
+        assert_eq!(extended(&piece), Some(Refusal::Piece));
+    }
+
+    #[test]
+    fn form_and_remote_come_before_a_code_over_8() {
+        for code in 9..=15 {
+            for first in [0x90 | code, 0xD0 | code, 0xA0 | code, code] {
+                let image = [first, 0x45, 0x00, 0xC0, 0x10, 1, 2, 3, 4, 5, 6, 7, 8];
+                assert_eq!(extended(&image), Some(Refusal::Form));
+            }
+            let mut image = [0xC0 | code, 0x45, 0, 0xC0, 0x10, 1, 2, 3, 4, 5, 6, 7, 8];
+            assert_eq!(extended(&image), Some(Refusal::Remote));
+            image[4] |= 1;
+            assert_eq!(extended(&image), Some(Refusal::Form));
+            let image = [0x96, 0xF0 | code, 1, 2, 3, 4, 5, 6, 7, 8];
+            assert_eq!(standard(&image), Some(Refusal::Remote));
         }
     }
 
@@ -281,36 +409,11 @@ mod tests {
 
     #[test]
     fn standard_end_of_number_one() {
-        assert_eq!(
-            standard(&standard_piece(Flag::End, 2, 1)),
-            Some(Refusal::Piece)
-        );
-        let image = standard_piece(Flag::End, 3, 1);
-        let frame = judge(Format::Standard, &image).unwrap();
+        assert_eq!(standard(&[0x16, 0x42, 1, 7]), Some(Refusal::Piece));
+        let frame = judge(Format::Standard, &[0x16, 0x43, 1, 7, 8]).unwrap();
         assert_eq!(frame.number, 1);
         assert_eq!(frame.count, 3);
-        assert_eq!(frame.packet, [0x55, 0x55]);
-    }
-
-    #[test]
-    fn standard_piece_rules() {
-        for count in 0..=8 {
-            for number in 0..=255 {
-                for (flag, obeys) in [
-                    (Flag::Single, true),
-                    (Flag::Start, count == 8 && number == 0),
-                    (Flag::Middle, count == 8 && number != 0 && number != 255),
-                    (
-                        Flag::End,
-                        number != 0 && count >= 2 && !(number == 1 && count == 2),
-                    ),
-                ] {
-                    let expected = (!obeys).then_some(Refusal::Piece);
-                    let image = standard_piece(flag, count, number);
-                    assert_eq!(standard(&image), expected, "{image:02X?}");
-                }
-            }
-        }
+        assert_eq!(frame.packet, [7, 8]);
     }
 
     #[test]

@@ -259,6 +259,28 @@ records 4
     }
 
     #[test]
+    fn codes_over_8_are_listed_as_8() {
+        for code in 9..=15 {
+            let images = [0x40, 0x01, 0x82, 0xC0].map(|flag_and_number| {
+                let mut image = image(9, flag_and_number, 8);
+                image[0] = 0x80 | code;
+                image
+            });
+            let mut input: Vec<u8> = images.iter().flat_map(|image| record(0, image)).collect();
+            input.extend(record(0, &images[3][..12]));
+            let expected = [
+                "1 A 0 9 0 0 1 0 0 8 kept",
+                "2 A 0 9 0 0 0 1 0 8 kept",
+                "3 A 0 9 0 0 2 2 0 8 packet 24",
+                "4 A 0 9 0 0 3 0 0 8 packet 8",
+                "5 A refused 4",
+                "records 5",
+            ];
+            assert_eq!(lines(&input), expected, "{code}");
+        }
+    }
+
+    #[test]
     fn broke_orphan_and_step() {
         let images = [
             image(9, 0x81, 2),

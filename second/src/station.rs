@@ -197,7 +197,7 @@ fn take_into(state: &mut State, area: &mut [u8], frame: &Frame) -> Answer {
 mod tests {
     use super::*;
     use crate::key::Fields;
-    use crate::split::{piece_count, write_piece};
+    use crate::split::{piece, piece_count, write_piece};
 
     fn extended(bus: u8, source: u8, function: u8) -> Key {
         Key {
@@ -316,6 +316,29 @@ mod tests {
                     assert_eq!(run.read(slot), (Ok(size), &packet(size, slot)[..]));
                     let rest = &run.store[slot * AREA_SIZE + size..(slot + 1) * AREA_SIZE];
                     assert!(rest.iter().all(|&byte| byte == 0xAA));
+                }
+            }
+        }
+    }
+
+    #[test]
+    fn packets_arrive_whole_with_codes_over_8() {
+        // Three filled pieces, and a single: each has eight data bytes.
+        for (key, count_byte, filled) in [(extended(0, 1, 1), 0, 24), (standard(0, 1), 1, 21)] {
+            for code in 9..=15 {
+                for size in [filled, 8] {
+                    let mut run = Run::new(&[key]);
+                    let packet = packet(size, code.into());
+                    let last = piece_count(key.fields.format(), size).unwrap() - 1;
+                    for k in 0..=last {
+                        let mut image = piece(&key.fields, &packet, k);
+                        assert_eq!(image[count_byte] & 0x0F, 8);
+                        image[count_byte] = image[count_byte] & 0xF0 | code;
+                        let answer = run.receive(0, &image);
+                        assert_eq!(answer, if k < last { KEPT } else { whole(size) });
+                    }
+                    assert_eq!(run.read(0), (Ok(size), &packet[..]));
+                    assert!(run.store[size..].iter().all(|&byte| byte == 0xAA));
                 }
             }
         }

@@ -7,6 +7,7 @@ const STATE: u32 = 0x8000_0015;
 const STORE: u32 = 0x8000_000D;
 const FIELD: u32 = 0x8000_0009;
 const LENGTH: u32 = 0x8000_0001;
+const COUNT: u32 = 0x8000_0004;
 const CLOSED: u32 = 0x8000_0010;
 const NOPACKET: u32 = 0x8000_0011;
 
@@ -51,6 +52,27 @@ fn opening_closing_receiving_reading() {
     assert_eq!(station[8..16], [0; 8]);
     assert_eq!(read(&station, &store, 1, &mut start), CLOSED);
     assert_eq!(receive(&mut station, &mut store, 0, &image), 0x0006_0000);
+}
+
+#[test]
+fn a_code_over_8_is_received_as_8() {
+    let images: [&[u8]; 2] = [
+        &[0x8C, 0x45, 0, 0xC0, 0x10, 1, 2, 3, 4, 5, 6, 7, 8],
+        &[0x45, 0x6C, 1, 2, 3, 4, 5, 6, 7, 8],
+    ];
+    let fields: [&[u8]; 2] = [&[1, 5, 0, 0, 2], &[1, 5, 0]];
+    for format in [0, 1] {
+        let (image, fields) = (images[format], fields[format]);
+        let mut station = new_station(format as u8);
+        let mut store = vec![0xAA; STORE_SIZE];
+        assert_eq!(open(&mut station, 0, fields), 0);
+        let idle = station.clone();
+        let short = &image[..image.len() - 1];
+        assert_eq!(receive(&mut station, &mut store, 0, short), COUNT);
+        assert_eq!((&station, store[0]), (&idle, 0xAA));
+        assert_eq!(receive(&mut station, &mut store, 0, image), 0x0004_0008);
+        assert_eq!(store[..9], [1, 2, 3, 4, 5, 6, 7, 8, 0xAA]);
+    }
 }
 
 #[test]
