@@ -3,6 +3,7 @@
 use std::io::{self, BufReader, BufWriter, Read, Write};
 
 use crate::format::Format;
+use crate::frame::judge;
 use crate::input::fill;
 use crate::key::{Fields, Key};
 use crate::refusal::Refusal;
@@ -22,6 +23,7 @@ const LEND: u8 = 9;
 const STORE: u8 = 10;
 const FILL: u8 = 11;
 const FRONT: u8 = 12;
+const JUDGE: u8 = 13;
 
 /// The bytes of which a part is lent as the store.
 const BYTES_SIZE: usize = 40_000;
@@ -126,6 +128,7 @@ impl Bench {
             (FILL, &[seed, step]) => self.fill(seed, step, response),
             // Both fronts answer alike, so there is one here and nothing to change.
             (FRONT, &[0 | 1]) => put_value(Ok(0), response),
+            (JUDGE, &[format, ref image @ ..]) => put_judged(format_of(format)?, image, response),
             _ => return None,
         }
         Some(())
@@ -257,6 +260,20 @@ fn put_piece(fields: &Fields, packet: &[u8], k: usize, room: u8, response: &mut 
     response.extend_from_slice(output);
 }
 
+/// Appends where the packet bytes of an image begin and what frame it holds,
+/// or its refusal alone.
+fn put_judged(format: Format, image: &[u8], response: &mut Vec<u8>) {
+    let judged = judge(format, image);
+    put_value(
+        judged.map(|frame| image.len() - frame.packet.len()),
+        response,
+    );
+    if let Ok(frame) = judged {
+        response.extend(fields_bytes(&frame.fields));
+        response.extend([frame.flag.bits(), frame.number]);
+    }
+}
+
 /// Appends an answer of kind "value", or a refusal.
 fn put_value(answer: Result<usize, Refusal>, response: &mut Vec<u8>) {
     match answer {
@@ -298,22 +315,27 @@ fn slot_bytes(slot: &Slot) -> [u8; 10] {
         State::Collecting(held) => (2, held),
         State::Done(held) => (3, held),
     };
-    let (format, [a, b, c, d, e]) = match key.fields {
+    let [h1, h0] = two_bytes(held);
+    let [format, a, b, c, d, e] = fields_bytes(&key.fields);
+    [kind, h1, h0, key.bus, format, a, b, c, d, e]
+}
+
+/// The format and five fields, of which standard has three.
+fn fields_bytes(fields: &Fields) -> [u8; 6] {
+    match *fields {
         Fields::Extended {
             priority,
             source,
             group,
             destination,
             function,
-        } => (0, [priority, source, group, destination, function]),
+        } => [0, priority, source, group, destination, function],
         Fields::Standard {
             priority,
             address,
             side,
-        } => (1, [priority, address, side, 0, 0]),
-    };
-    let [h1, h0] = two_bytes(held);
-    [kind, h1, h0, key.bus, format, a, b, c, d, e]
+        } => [1, priority, address, side, 0, 0],
+    }
 }
 
 #[cfg(test)]
@@ -553,11 +575,27 @@ mod tests {
     }
 
     #[test]
+    fn judged_images() {
+        let extended = [JUDGE, 0, 0x81, 0x45, 0x00, 0xC0, 0x10, 0x07];
+        assert_eq!(last(&[&extended]), [5, 0, 5, 0, 0, 1, 5, 0, 0, 2, 3, 0]);
+        let single = [JUDGE, 1, 0x96, 0xE3, 7, 8, 9];
+        assert_eq!(last(&[&single]), [5, 0, 2, 0, 1, 2, 22, 1, 0, 0, 3, 0]);
+        let end = [JUDGE, 1, 0x96, 0xC3, 7, 8, 9];
+        assert_eq!(last(&[&end]), [5, 0, 3, 0, 1, 2, 22, 1, 0, 0, 2, 7]);
+        let over_8 = [JUDGE, 1, 0x96, 0x8C, 7, 8, 9, 10, 11, 12, 13, 14];
+        assert_eq!(last(&[&over_8]), [5, 0, 3, 0, 1, 2, 22, 1, 0, 0, 0, 7]);
+        assert_eq!(last(&[&over_8[..11]]), [4, 0, 4, 0]);
+        assert_eq!(last(&[&[JUDGE, 0]]), [4, 0, 1, 0]);
+    }
+
+    #[test]
     fn what_is_no_request_has_an_empty_response() {
-        let none: [&[u8]; 29] = [
+        let none: [&[u8]; 31] = [
             &[],
             &[0],
-            &[13],
+            &[JUDGE],
+            &[JUDGE, 2, 0x96, 0xE0],
+            &[14, 1],
             &[30],
             &[31],
             &[255, 0],
