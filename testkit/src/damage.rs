@@ -1,13 +1,14 @@
-//! Images made wrong in one of several ways.
+//! Images made wrong in one of several ways, or given another code for the same count.
 
-use second::format::Format;
+use second::format::{Format, MAX_COUNT};
 
 use crate::random::Random;
 
 /// What can be wrong with an image; "fixed bits wrong" in extended only.
-pub const CORRUPTIONS: [&str; 9] = [
+pub const CORRUPTIONS: [&str; 10] = [
     "bits flipped",
     "count wrong",
+    "count code over 8, data cut",
     "RTR set",
     "flag wrong",
     "number wrong",
@@ -41,24 +42,66 @@ pub fn corrupt(
     let way = random.below(ways);
     match way {
         0 => flip_bits(image, random),
-        1 => change_low(image, count_byte(format), 4, random),
-        2 => set_remote(image, format),
-        3 => change_flag(image, format, random),
-        4 => change_number(image, format, random),
-        5 => change_length(image, longest, random),
-        6 => shorten(image, format, random),
-        7 => *image = random_bytes(longest, random),
+        1 => wrong_count(image, format, random),
+        2 => raise_and_cut(image, format, random),
+        3 => set_remote(image, format),
+        4 => change_flag(image, format, random),
+        5 => change_number(image, format, random),
+        6 => change_length(image, longest, random),
+        7 => shorten(image, format, random),
+        8 => *image = random_bytes(longest, random),
         _ => break_fixed_bits(image, random),
     }
     CORRUPTIONS[way]
 }
 
-/// The place of the byte whose low half is the count.
+/// The place of the byte whose low half is the count's code.
 fn count_byte(format: Format) -> usize {
     match format {
         Format::Extended => 0,
         Format::Standard => 1,
     }
+}
+
+/// Gives an image that count code.
+pub fn set_code(image: &mut [u8], format: Format, code: usize) {
+    let byte = &mut image[count_byte(format)];
+    *byte = *byte & 0xF0 | code as u8;
+}
+
+/// Whether an image has one of the count codes 9 to 15. What is too short for a code has none.
+pub fn is_over_8(image: &[u8], format: Format) -> bool {
+    let byte = image.get(count_byte(format));
+    byte.is_some_and(|byte| usize::from(byte & 0x0F) > MAX_COUNT)
+}
+
+/// Puts one of the codes 9 to 15 in the place of 8 before eight data bytes, which means the same (L3), and says so.
+/// Other images stay as they are.
+pub fn raise_code(image: &mut [u8], format: Format, random: &mut Random) -> bool {
+    let full = image.len() == format.header_size() + MAX_COUNT;
+    let raised = full && usize::from(image[count_byte(format)] & 0x0F) == MAX_COUNT;
+    if raised {
+        set_code(image, format, any_code_over_8(random));
+    }
+    raised
+}
+
+fn any_code_over_8(random: &mut Random) -> usize {
+    random.within(MAX_COUNT + 1, 15)
+}
+
+/// Gives a code that does not stand for the number of data bytes.
+fn wrong_count(image: &mut [u8], format: Format, random: &mut Random) {
+    let size = image.len() - format.header_size();
+    let wrong = (0..=15).filter(|&code: &usize| code.min(MAX_COUNT) != size);
+    let wrong: Vec<usize> = wrong.collect();
+    set_code(image, format, random.pick(&wrong));
+}
+
+/// Gives a code over 8 and leaves fewer than eight data bytes.
+fn raise_and_cut(image: &mut Vec<u8>, format: Format, random: &mut Random) {
+    image.truncate(format.header_size() + random.below(MAX_COUNT));
+    set_code(image, format, any_code_over_8(random));
 }
 
 fn flip_bits(image: &mut [u8], random: &mut Random) {
@@ -111,9 +154,10 @@ fn change_length(image: &mut Vec<u8>, longest: usize, random: &mut Random) {
 
 /// Cuts data bytes off and gives the count that belongs to it.
 fn shorten(image: &mut Vec<u8>, format: Format, random: &mut Random) {
-    image.truncate(random.within(format.header_size(), image.len()));
-    let byte = count_byte(format);
-    image[byte] = image[byte] & 0xF0 | (image.len() - format.header_size()) as u8;
+    let header = format.header_size();
+    let length = random.within(header, image.len());
+    image.truncate(length);
+    set_code(image, format, length - header);
 }
 
 fn random_bytes(longest: usize, random: &mut Random) -> Vec<u8> {
@@ -172,19 +216,106 @@ mod tests {
         }
     }
 
+    const FLAGS: [Flag; 4] = [Flag::Start, Flag::Middle, Flag::End, Flag::Single];
+
+    /// An image of a flag, a number that goes with it, and so many data bytes, one at least where the number is one.
+    fn any_image(format: Format, flag: Flag, size: usize, random: &mut Random) -> Vec<u8> {
+        let fields = any_fields(format, random);
+        let numbered = format == Format::Standard && flag != Flag::Single;
+        let part = random.bytes(size.saturating_sub(numbered.into()));
+        let number = match flag {
+            Flag::Start | Flag::Single => 0,
+            Flag::Middle | Flag::End => random.within(1, 63),
+        };
+        image(&fields, flag, number as u8, &part)
+    }
+
     #[test]
     fn keeps_within_the_longest_for_every_piece() {
         let mut random = Random::new(8);
         for format in FORMATS {
             for _ in 0..5000 {
-                let fields = any_fields(format, &mut random);
-                let flags = [Flag::Start, Flag::Middle, Flag::End, Flag::Single];
-                let size = random.within(0, format.piece_size());
-                let (flag, part) = (random.pick(&flags), random.bytes(size));
-                let mut image = image(&fields, flag, 0, &part);
+                let (flag, size) = (random.pick(&FLAGS), random.within(0, 8));
+                let mut image = any_image(format, flag, size, &mut random);
                 corrupt(&mut image, format, 13, &mut random);
                 assert!(image.len() <= 13);
             }
+        }
+    }
+
+    #[test]
+    fn wrong_counts_are_refused_with_codes_over_8_among_them() {
+        let mut random = Random::new(3);
+        for format in FORMATS {
+            for flag in FLAGS {
+                for size in 1..=8 {
+                    let mut over = 0;
+                    for _ in 0..100 {
+                        let mut image = any_image(format, flag, size, &mut random);
+                        wrong_count(&mut image, format, &mut random);
+                        assert_eq!(judge(format, &image), Err(Refusal::Count));
+                        over += usize::from(is_over_8(&image, format));
+                    }
+                    // Before eight data bytes they are sound.
+                    assert_eq!(over > 20, size < 8, "{over}");
+                }
+            }
+        }
+    }
+
+    #[test]
+    fn codes_over_8_before_less_data_are_refused() {
+        let mut random = Random::new(4);
+        for format in FORMATS {
+            for flag in FLAGS {
+                let mut sizes = [false; 8];
+                for _ in 0..300 {
+                    let mut image = any_image(format, flag, 8, &mut random);
+                    raise_and_cut(&mut image, format, &mut random);
+                    assert!(is_over_8(&image, format));
+                    assert_eq!(judge(format, &image), Err(Refusal::Count));
+                    sizes[image.len() - format.header_size()] = true;
+                }
+                assert_eq!(sizes, [true; 8]);
+            }
+        }
+    }
+
+    #[test]
+    fn a_raised_code_is_judged_as_8() {
+        let mut random = Random::new(6);
+        for format in FORMATS {
+            for flag in FLAGS {
+                let mut codes = [false; 16];
+                for _ in 0..200 {
+                    let image = any_image(format, flag, 8, &mut random);
+                    let mut raised = image.clone();
+                    assert!(raise_code(&mut raised, format, &mut random));
+                    codes[usize::from(raised[count_byte(format)] & 0x0F)] = true;
+                    assert!(is_over_8(&raised, format) && !is_over_8(&image, format));
+                    assert!(judge(format, &image).is_ok());
+                    assert_eq!(judge(format, &raised), judge(format, &image));
+                }
+                assert_eq!(codes, std::array::from_fn(|code| code > 8));
+            }
+        }
+    }
+
+    #[test]
+    fn no_other_image_gets_a_raised_code() {
+        let mut random = Random::new(7);
+        for format in FORMATS {
+            let mut images: Vec<Vec<u8>> = (0..=13).map(|size| vec![0x88; size]).collect();
+            images.retain(|image| image.len() != format.header_size() + 8);
+            let mut wrong = any_image(format, Flag::Single, 8, &mut random);
+            set_code(&mut wrong, format, 3);
+            images.push(wrong);
+            for image in images {
+                let mut same = image.clone();
+                assert!(!raise_code(&mut same, format, &mut random));
+                assert_eq!(same, image);
+            }
+            assert!(!is_over_8(&[], format));
         }
     }
 

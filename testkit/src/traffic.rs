@@ -7,7 +7,7 @@ use second::split::{image, piece, pieces_for};
 use second::station::{Slot, Station};
 use second::stream::State;
 
-use crate::damage::corrupt;
+use crate::damage::{corrupt, raise_code, set_code};
 use crate::random::Random;
 
 /// How long the packets of a run are.
@@ -58,6 +58,9 @@ pub struct Noise {
     pub any_piece: usize,
     pub priority: usize,
     pub corrupt: usize,
+    /// Of the frames of count 8, whatever else happens to them: those with one of the codes 9 to 15 for it, which breaks
+    /// nothing.
+    pub codes: usize,
 }
 
 impl Noise {
@@ -71,6 +74,7 @@ impl Noise {
             any_piece: times,
             priority: times,
             corrupt: times,
+            codes: times,
         }
     }
 
@@ -108,7 +112,7 @@ enum Disturbance {
 }
 
 /// What is noted of an arrival besides the corruptions.
-pub const DISTURBANCES: [&str; 7] = [
+pub const DISTURBANCES: [&str; 8] = [
     "frame lost before this one",
     "frame repeated",
     "start repeated",
@@ -116,6 +120,7 @@ pub const DISTURBANCES: [&str; 7] = [
     "stray piece",
     "any flag, number and count",
     "other priority",
+    "count code over 8",
 ];
 
 /// A frame that arrives, with a note of how it was disturbed.
@@ -173,6 +178,17 @@ impl Traffic {
 
     /// The next frame.
     pub fn next_frame(&mut self) -> Arrival {
+        let mut arrival = self.next_arrival();
+        let image = &mut arrival.image;
+        if self.random.chance(self.noise.codes) && raise_code(image, self.format, &mut self.random)
+        {
+            arrival.note.get_or_insert(DISTURBANCES[7]);
+        }
+        arrival
+    }
+
+    /// The next frame, with the code 8 for a count of 8.
+    fn next_arrival(&mut self) -> Arrival {
         // A repeated frame comes at once or after some others.
         if self.again.is_some() && self.random.chance(500) {
             return self.again.take().expect("it is there");
@@ -304,9 +320,13 @@ impl Traffic {
         };
         let size = random.within(0, most);
         let part = random.bytes(size);
+        let mut image = image(&key.fields, flag, number, &part);
+        if random.chance(250) {
+            set_code(&mut image, self.format, random.within(9, 15));
+        }
         Arrival {
             bus: key.bus,
-            image: image(&key.fields, flag, number, &part),
+            image,
             note: Some(DISTURBANCES[5]),
         }
     }
@@ -344,8 +364,12 @@ fn collecting(station: &Station, key: &Key) -> Option<usize> {
 #[cfg(test)]
 mod tests {
     use super::*;
+    use crate::damage::is_over_8;
     use crate::keys::{different_keys, FORMATS};
     use second::frame::judge;
+    use second::refusal::Refusal;
+    use second::station::STORE_SIZE;
+    use second::stream::Answer;
 
     fn traffic(format: Format, streams: usize, sizes: Sizes, noise: Noise) -> Traffic {
         let mut random = Random::new(11);
@@ -384,6 +408,75 @@ mod tests {
                 assert!(notes.contains(&name), "{name}");
             }
             assert!((50..1000).contains(&refused), "{refused}");
+        }
+    }
+
+    /// What a station that has all keys open answers, and the flags of the frames with a code over 8.
+    fn received(traffic: &mut Traffic, frames: usize) -> (Vec<Answer>, Vec<Flag>) {
+        let mut station = Station::new(traffic.format);
+        for stream in &traffic.streams {
+            station = station.open(stream.key).0;
+        }
+        let mut store = vec![0; STORE_SIZE];
+        let (mut answers, mut raised) = (Vec::new(), Vec::new());
+        for _ in 0..frames {
+            let arrival = traffic.next_frame();
+            if is_over_8(&arrival.image, traffic.format) {
+                assert_eq!(arrival.note, Some(DISTURBANCES[7]));
+                let frame = judge(traffic.format, &arrival.image);
+                raised.extend(frame.map(|frame| frame.flag));
+            }
+            let (next, answer) = station.receive(arrival.bus, &arrival.image, &mut store);
+            station = next;
+            answers.push(answer);
+        }
+        (answers, raised)
+    }
+
+    #[test]
+    fn packets_with_codes_over_8_are_whole() {
+        for format in FORMATS {
+            let codes = Noise {
+                codes: 400,
+                ..Noise::default()
+            };
+            let mut traffic = traffic(format, 5, Sizes::Short, codes);
+            let (answers, raised) = received(&mut traffic, 10_000);
+            let mut long = 0;
+            for answer in answers {
+                match answer {
+                    Answer::Packet { length, .. } => long += usize::from(length > 8),
+                    Answer::Kept { broke: false } => {}
+                    _ => panic!("{format:?} {answer:?}"),
+                }
+            }
+            assert!(long > 1000, "{long}");
+            for flag in [Flag::Start, Flag::Middle, Flag::End, Flag::Single] {
+                let times = raised.iter().filter(|&&own| own == flag).count();
+                assert!(times > 3, "{format:?} {flag:?} {times}");
+            }
+        }
+    }
+
+    #[test]
+    fn noise_has_codes_over_8_sound_and_refused() {
+        for format in FORMATS {
+            let mut traffic = traffic(format, 5, Sizes::Short, Noise::even(50));
+            let (mut sound, mut count, mut piece) = (0, 0, 0);
+            for _ in 0..20_000 {
+                let image = traffic.next_frame().image;
+                match judge(format, &image) {
+                    _ if !is_over_8(&image, format) => {}
+                    Ok(_) => sound += 1,
+                    Err(Refusal::Count) => count += 1,
+                    Err(Refusal::Piece) => piece += 1,
+                    Err(_) => {}
+                }
+            }
+            assert!(
+                sound > 100 && count > 20 && piece > 5,
+                "{sound} {count} {piece}"
+            );
         }
     }
 
