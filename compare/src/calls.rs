@@ -1,16 +1,14 @@
 //! Compares the calls of a station, script by script.
 
 use crate::exchange;
-use crate::program;
-use crate::request::{self, answer, encode, name, refused, Request};
+use crate::request::{self, answer, encode, judged, name, refused, Request, BY_COUNT};
 use crate::script::{Script, CUT_SHORT, LENT_OTHER, MALFORMED, UNSOUND, WHOLE_STORE};
 use crate::tally::Tally;
 use second::format::Format;
 use second::refusal::Refusal;
 use std::fs;
-use std::io::{BufReader, Write};
 use std::path::Path;
-use std::process::Command;
+use testkit::damage::is_over_8;
 use testkit::{keys, FORMATS};
 
 /// Runs both programs on that many scripts and compares their responses one by one.
@@ -32,18 +30,8 @@ pub fn compare(calls: &Path, count: u64, seed: u64, keep: Option<&Path>) -> Resu
 }
 
 fn compare_one(calls: &Path, script: &Script, tally: &mut Tally) -> Result<(), String> {
-    let expected = exchange::by_second(&script.requests, &script.tail)?;
-    let bytes = whole(script);
-    program::run(
-        &mut Command::new(calls),
-        |input| input.write_all(&bytes),
-        |output| {
-            let mut output = BufReader::new(output);
-            exchange::compare(&mut output, &script.requests, &expected)?;
-            exchange::at_end(&mut output)
-        },
-    )?;
-    count_answers(&script.requests, &expected, tally);
+    let responses = exchange::both(calls, &script.requests, &script.tail)?;
+    count_answers(&script.requests, &responses, tally);
     for note in &script.notes {
         tally.count(&row(note.format, note.front, note.what));
     }
@@ -139,6 +127,11 @@ fn longest(format: Format) -> String {
     format!("RECEIVE packet of {} bytes", format.packet_limit())
 }
 
+/// Of images with a count code of 9 to 15: what is said of them.
+fn of_code(judged: &str) -> String {
+    format!("RECEIVE of a count code 9 to 15: {judged}")
+}
+
 fn of_length(length: usize) -> String {
     format!("RECEIVE of an image of {length} bytes")
 }
@@ -151,11 +144,20 @@ fn names() -> Vec<String> {
             let rows = received(format).into_iter().chain(known.map(String::from));
             names.extend(rows.map(|what| row(format, front, &what)));
             names.push(row(format, front, &longest(format)));
+            names.extend(BY_COUNT.map(|judged| row(format, front, &of_code(judged))));
             names.extend((0..=15).map(|length| row(format, front, &of_length(length))));
         }
         names.extend(others().iter().map(|what| row(format, 0, what)));
     }
     names
+}
+
+/// What is counted of an image received besides its answer.
+fn of_image(format: Format, image: &[u8], response: &[u8]) -> impl Iterator<Item = String> {
+    let code = is_over_8(image, format).then(|| judged(response));
+    let by_count = code.filter(|judged| BY_COUNT.contains(&judged.as_str()));
+    let code = by_count.map(|judged| of_code(&judged));
+    code.into_iter().chain([of_length(image.len())])
 }
 
 /// Counts the answers of the calls on the station, by the format and the front it has at that time.
@@ -181,7 +183,8 @@ fn count_answers(requests: &[Request], responses: &[Vec<u8>], tally: &mut Tally)
         let what = format!("{} {}", name(operation), answer(response));
         tally.count(&row(format, front, &what));
         if operation == request::RECEIVE {
-            tally.count(&row(format, front, &of_length(request.len() - 2)));
+            let what = of_image(format, &request[2..], response);
+            what.for_each(|what| tally.count(&row(format, front, &what)));
         }
         let [high, low] = (format.packet_limit() as u16).to_be_bytes();
         if response.starts_with(&[1, high, low]) {
@@ -214,6 +217,9 @@ mod tests {
             request::front(1),
             request::front(2),
             request::receive(0, &[1]),
+            request::receive(0, &[0x96, 0xEC]),
+            request::receive(0, &[0x96, 0xE8]),
+            request::receive(0, &[0x96, 0xEF]),
         ];
         let value = vec![5, 0, 0, 0];
         let responses = [
@@ -225,6 +231,9 @@ mod tests {
             value,
             Vec::new(),
             vec![4, 0, 1, 0],
+            vec![4, 0, 4, 0],
+            vec![4, 0, 5, 0],
+            vec![2, 0, 0, 0],
         ];
         let names = [
             "extended READ refused 16",
@@ -234,10 +243,17 @@ mod tests {
             "standard front 0 RECEIVE packet of 1792 bytes",
             "standard front 1 RECEIVE refused 1",
             "standard front 1 RECEIVE of an image of 1 bytes",
+            "standard front 1 RECEIVE of a count code 9 to 15: refused 4",
+            "standard front 1 RECEIVE of a count code 9 to 15: sound",
         ];
         let mut tally = Tally::requiring(names.map(str::to_string).to_vec());
         count_answers(&requests, &responses, &mut tally);
         assert_eq!(tally.check(), Ok(()));
+        // A count code of 8 is none of these.
+        let other = "standard front 1 RECEIVE of a count code 9 to 15: refused 5";
+        let mut tally = Tally::requiring(vec![other.to_string()]);
+        count_answers(&requests, &responses, &mut tally);
+        assert!(tally.check().is_err());
     }
 
     #[test]

@@ -1,7 +1,27 @@
 //! Puts the same requests to both programs and compares the responses one by one.
 
+use crate::program;
 use crate::request::{encode, name, next_response, Request};
-use std::io::Read;
+use std::io::{BufReader, Read, Write};
+use std::path::Path;
+use std::process::Command;
+
+/// Puts the requests to both programs, with `tail` after them, and gives the responses if they are the same.
+pub fn both(calls: &Path, requests: &[Request], tail: &[u8]) -> Result<Vec<Vec<u8>>, String> {
+    let expected = by_second(requests, tail)?;
+    let mut bytes = encode(requests);
+    bytes.extend_from_slice(tail);
+    program::run(
+        &mut Command::new(calls),
+        |input| input.write_all(&bytes),
+        |output| {
+            let mut output = BufReader::new(output);
+            compare(&mut output, requests, &expected)?;
+            at_end(&mut output)
+        },
+    )?;
+    Ok(expected)
+}
 
 /// The responses of the second program, one for each request. `tail` is fed after the requests.
 pub fn by_second(requests: &[Request], tail: &[u8]) -> Result<Vec<Vec<u8>>, String> {

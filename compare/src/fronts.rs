@@ -4,7 +4,7 @@ use crate::calls::keep_script;
 use crate::exchange;
 use crate::observe::answers;
 use crate::program::{self, drip};
-use crate::request::{self, answer, encode, name, refused, Request, FULL_STORE};
+use crate::request::{self, answer, encode, judged, name, refused, Request, BY_COUNT, FULL_STORE};
 use crate::tally::Tally;
 use crate::trace::{read_record, Trace};
 use second::format::Format;
@@ -14,6 +14,7 @@ use second::refusal::Refusal;
 use std::io::BufReader;
 use std::path::Path;
 use std::process::Command;
+use testkit::damage::is_over_8;
 use testkit::Random;
 
 /// The station's own, and the one over a lent table.
@@ -50,6 +51,8 @@ fn names() -> Vec<String> {
     for front in FRONTS {
         let received = answers().into_iter();
         names.extend(received.map(|answer| row(front, request::RECEIVE, &answer)));
+        let codes = BY_COUNT.map(of_code);
+        names.extend(codes.map(|what| row(front, request::RECEIVE, &what)));
         // A key is new, open already, or all slots are taken.
         let opened = [
             "value".into(),
@@ -63,6 +66,11 @@ fn names() -> Vec<String> {
 
 fn row(front: u8, operation: u8, answer: &str) -> String {
     format!("front {front} {} {answer}", name(operation))
+}
+
+/// Of images with a count code of 9 to 15: what is said of them.
+fn of_code(judged: &str) -> String {
+    format!("of a count code 9 to 15: {judged}")
 }
 
 /// In how large parts a script is handed over: whole, or some of the short ones in small parts, because it takes
@@ -97,6 +105,12 @@ fn compare_one(
     for (request, response) in requests.iter().zip(&expected) {
         if [request::OPEN, request::RECEIVE].contains(&request[0]) {
             tally.count(&row(script.front, request[0], &answer(response)));
+        }
+        if request[0] == request::RECEIVE && is_over_8(&request[2..], Format::Extended) {
+            let judged = judged(response);
+            if BY_COUNT.contains(&judged.as_str()) {
+                tally.count(&row(script.front, request::RECEIVE, &of_code(&judged)));
+            }
         }
     }
     if part < usize::MAX {
@@ -272,6 +286,7 @@ mod tests {
             damage: Some("length 1"),
             notes: Vec::new(),
             lengths: [0; 14],
+            over_8: vec![false; 3],
         }
     }
 

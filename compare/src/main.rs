@@ -2,6 +2,7 @@
 //! All inputs come from fixed seeds. What occurred is counted, and what must occur but never did is an error.
 
 mod calls;
+mod counts;
 mod exchange;
 mod fronts;
 mod full;
@@ -30,6 +31,7 @@ const USAGE: &str = "usage:
   compare fronts CALLS COUNT SEED [--keep FILE]
   compare pieces CALLS
   compare full CALLS
+  compare counts LISTING CALLS [--also COMMAND]
   compare calls CALLS COUNT SEED [--keep FILE]
   compare make N SEED >TRACE
   compare log <TRACE >LOG
@@ -56,6 +58,10 @@ fn run(arguments: &[&str]) -> Result<(), String> {
             let listing = Path::new(program);
             let programs = Programs { listing, also };
             traces::compare(&programs, number(count)?, number(seed)?, keep)
+        }
+        ["counts", program, calls] if keep.is_none() => {
+            let listing = Path::new(program);
+            counts::compare(&Programs { listing, also }, Path::new(calls))
         }
         ["fronts", program, count, seed] if also.is_none() => {
             fronts::compare(Path::new(program), number(count)?, number(seed)?, keep)
@@ -110,7 +116,7 @@ mod tests {
 
     #[test]
     fn refuses_what_it_does_not_know() {
-        let wrong: [&[&str]; 9] = [
+        let wrong: [&[&str]; 11] = [
             &[],
             &["listing"],
             &["log", "--also", "x"],
@@ -119,6 +125,8 @@ mod tests {
             &["fronts", "x", "1"],
             &["full", "x", "1"],
             &["full", "x", "--keep", "x"],
+            &["counts", "x"],
+            &["counts", "x", "x", "--keep", "x"],
             &["traces", "x", "1", "1", "--keep"],
         ];
         for arguments in wrong {

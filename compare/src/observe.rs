@@ -29,12 +29,25 @@ const ORPHAN_END: &str = "end refused as ORPHAN";
 const BETWEEN: &str = "packet with frames of another source between its own";
 const TWIN: &str = "packet with frames of the same fields on the other bus between";
 const STOPPED: &str = "stopped";
+const CODE_LISTED: &str = "count code 9 to 15 listed as 8";
+const CODE_REFUSED: &str = "count code 9 to 15 refused as COUNT";
+const CODE_BETWEEN: &str = "packet of several pieces, some with a count code 9 to 15";
 
 /// The names under which a listing's lines are counted.
 pub fn names() -> Vec<String> {
     let singles = (0..=8).map(|length| format!("single of {length} bytes"));
     let others = [
-        WRAPPED, WHOLE_512, WHOLE_2048, LONG_0, ORPHAN_END, BETWEEN, TWIN, STOPPED,
+        WRAPPED,
+        WHOLE_512,
+        WHOLE_2048,
+        LONG_0,
+        ORPHAN_END,
+        BETWEEN,
+        TWIN,
+        STOPPED,
+        CODE_LISTED,
+        CODE_REFUSED,
+        CODE_BETWEEN,
     ];
     let fixed = answers().into_iter().chain(others.map(String::from));
     fixed.chain(singles).collect()
@@ -47,6 +60,9 @@ struct Line<'a> {
     fields: [&'a str; 5],
     flag: &'a str,
     number: &'a str,
+    count: &'a str,
+    /// Whether the image has a count code of 9 to 15.
+    over_8: bool,
     answer: &'a [&'a str],
 }
 
@@ -56,6 +72,8 @@ struct UnderWay {
     fields: [String; 5],
     other_source: bool,
     twin: bool,
+    /// Whether one of its pieces has a count code of 9 to 15.
+    over_8: bool,
 }
 
 impl UnderWay {
@@ -70,24 +88,28 @@ struct Observer<'a> {
     tally: &'a mut Tally,
 }
 
-/// Counts what the lines of a listing show. Gives the number in its last line.
-pub fn observe(listing: &str, tally: &mut Tally) -> Option<usize> {
+/// Counts what the lines of a listing show; of each record it is known whether its image has a count code of 9 to 15.
+/// Gives the number in the last line.
+pub fn observe(listing: &str, over_8: &[bool], tally: &mut Tally) -> Option<usize> {
     let mut observer = Observer {
         under_way: Vec::new(),
         tally,
     };
     let mut records = None;
-    for line in listing.lines().skip(1) {
+    for (place, line) in listing.lines().skip(1).enumerate() {
+        let over_8 = over_8.get(place).is_some_and(|&over_8| over_8);
         let words: Vec<&str> = line.split(' ').collect();
         match words[..] {
             ["records", number] => records = number.parse().ok(),
             [_, "stopped"] => observer.tally.count(STOPPED),
-            [_, _, "refused", number] => observer.tally.count(&format!("refused {number}")),
-            [_, bus, p, s, g, d, flag, number, f, _, ref answer @ ..] => observer.line(&Line {
+            [_, _, "refused", number] => observer.no_frame(number, over_8),
+            [_, bus, p, s, g, d, flag, number, f, count, ref answer @ ..] => observer.line(&Line {
                 bus,
                 fields: [p, s, g, d, f],
                 flag,
                 number,
+                count,
+                over_8,
                 answer,
             }),
             _ => observer.tally.count("line of another form"),
@@ -97,8 +119,19 @@ pub fn observe(listing: &str, tally: &mut Tally) -> Option<usize> {
 }
 
 impl Observer<'_> {
+    /// An image that is refused before it belongs to a stream.
+    fn no_frame(&mut self, number: &str, over_8: bool) {
+        self.tally.count(&format!("refused {number}"));
+        if over_8 && number.parse() == Ok(Refusal::Count.number()) {
+            self.tally.count(CODE_REFUSED);
+        }
+    }
+
     fn line(&mut self, line: &Line) {
         self.pass_by(line);
+        if line.over_8 && line.count == "8" {
+            self.tally.count(CODE_LISTED);
+        }
         match *line.answer {
             ["packet", length] => {
                 self.tally.count("packet");
@@ -133,10 +166,21 @@ impl Observer<'_> {
                     fields: line.fields.map(str::to_string),
                     other_source: false,
                     twin: false,
+                    over_8: line.over_8,
                 });
             }
-            ("0", "kept") if line.number == "0" => self.tally.count(WRAPPED),
+            ("0", "kept") => self.middle(line),
             _ => {}
+        }
+    }
+
+    fn middle(&mut self, line: &Line) {
+        if line.number == "0" {
+            self.tally.count(WRAPPED);
+        }
+        let mut under_way = self.under_way.iter_mut();
+        if let Some(own) = under_way.find(|packet| packet.has_key(line)) {
+            own.over_8 |= line.over_8;
         }
     }
 
@@ -153,6 +197,10 @@ impl Observer<'_> {
             (length == 2048, WHOLE_2048),
             (ended.is_some_and(|packet| packet.other_source), BETWEEN),
             (ended.is_some_and(|packet| packet.twin), TWIN),
+            (
+                ended.is_some_and(|packet| packet.over_8 || line.over_8),
+                CODE_BETWEEN,
+            ),
         ];
         for (holds, name) in facts {
             if holds {
@@ -184,8 +232,12 @@ mod tests {
     use super::*;
 
     fn missing(listing: &str) -> String {
+        missing_with_codes(listing, &[])
+    }
+
+    fn missing_with_codes(listing: &str, over_8: &[bool]) -> String {
         let mut tally = Tally::requiring(names());
-        observe(listing, &mut tally);
+        observe(listing, over_8, &mut tally);
         tally.check().expect_err("a short listing lacks much")
     }
 
@@ -225,6 +277,30 @@ mod tests {
             assert!(!missing.contains(name), "{name}");
         }
         let mut tally = Tally::requiring(Vec::new());
-        assert_eq!(observe(listing, &mut tally), Some(5));
+        assert_eq!(observe(listing, &[], &mut tally), Some(5));
+    }
+
+    #[test]
+    fn sees_codes_over_8() {
+        let listing = "header\n1 A 0 1 0 0 1 0 2 8 kept\n2 A 0 1 0 0 0 1 2 8 kept\n\
+                       3 A 0 1 0 0 2 2 2 1 packet 17\n4 A refused 4\n5 A refused 3\nrecords 5\n";
+        // The records with such a code, and what is seen of it. The end's count is not listed as 8.
+        let cases: [(&[usize], &[&str]); 4] = [
+            (&[], &[]),
+            (&[0, 3], &[CODE_LISTED, CODE_REFUSED, CODE_BETWEEN]),
+            (&[1, 4], &[CODE_LISTED, CODE_BETWEEN]),
+            (&[2], &[CODE_BETWEEN]),
+        ];
+        for (records, seen) in cases {
+            let over_8: Vec<bool> = (0..5).map(|place| records.contains(&place)).collect();
+            let missing = missing_with_codes(listing, &over_8);
+            for name in [CODE_LISTED, CODE_REFUSED, CODE_BETWEEN] {
+                assert_eq!(
+                    !missing.contains(name),
+                    seen.contains(&name),
+                    "{records:?} {name}"
+                );
+            }
+        }
     }
 }

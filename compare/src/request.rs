@@ -18,6 +18,7 @@ pub const LEND: u8 = 9;
 pub const STORE: u8 = 10;
 pub const FILL: u8 = 11;
 pub const FRONT: u8 = 12;
+pub const JUDGE: u8 = 13;
 
 /// The size of the bytes that both programs hold, of which a part is lent.
 pub const HELD: usize = 40_000;
@@ -112,6 +113,12 @@ pub fn front(number: u8) -> Request {
     vec![FRONT, number]
 }
 
+pub fn judge(format: Format, image: &[u8]) -> Request {
+    let mut request = vec![JUDGE, number(format)];
+    request.extend_from_slice(image);
+    request
+}
+
 /// The requests as they are fed to a program.
 pub fn encode(requests: &[Request]) -> Vec<u8> {
     let mut bytes = Vec::new();
@@ -149,6 +156,7 @@ pub fn name(operation: u8) -> &'static str {
         STORE => "STORE",
         FILL => "FILL",
         FRONT => "FRONT",
+        JUDGE => "JUDGE",
         _ => "unknown",
     }
 }
@@ -174,6 +182,19 @@ pub fn answer(response: &[u8]) -> String {
     match broke {
         0 => word,
         _ => word + " broke",
+    }
+}
+
+/// What an image can be judged to be once its count is looked at.
+pub const BY_COUNT: [&str; 3] = ["sound", "refused 4", "refused 5"];
+
+/// What the answer to an image that is judged or received says of the image, in words: "sound", or its refusal.
+pub fn judged(response: &[u8]) -> String {
+    match response {
+        // These refuse a sound image: ORPHAN, STEP and LONG.
+        [4, 0, 6..=8, ..] => "sound".to_string(),
+        [4, ..] => answer(response),
+        _ => "sound".to_string(),
     }
 }
 
@@ -204,6 +225,7 @@ mod tests {
         assert_eq!(lend(FULL_STORE), [9, 0x80, 0]);
         assert_eq!(fill(3, 5), [11, 3, 5]);
         assert_eq!(front(1), [12, 1]);
+        assert_eq!(judge(Format::Standard, &[5, 6]), [13, 1, 5, 6]);
     }
 
     #[test]
@@ -223,5 +245,18 @@ mod tests {
         assert_eq!(answer(&[1, 0, 9, 1, 0]), "packet broke");
         assert_eq!(answer(&[4, 0, 21, 0]), refused(Refusal::State));
         assert_eq!(answer(&[]), "no answer");
+    }
+
+    #[test]
+    fn tells_sound_images() {
+        for response in [[1, 0, 8, 1], [2, 0, 0, 0], [3, 0, 0, 0], [5, 0, 5, 0]] {
+            assert_eq!(judged(&response), "sound");
+        }
+        for refusal in Refusal::ALL {
+            let of_sound = [Refusal::Orphan, Refusal::Step, Refusal::Long].contains(refusal);
+            let sound = judged(&[4, 0, refusal.number(), 0]) == "sound";
+            assert_eq!(sound, of_sound, "{refusal:?}");
+        }
+        assert_eq!(judged(&[4, 0, 4, 0]), "refused 4");
     }
 }

@@ -2,6 +2,7 @@
 
 use second::format::Format;
 use std::io::{self, Read, Write};
+use testkit::damage::is_over_8;
 use testkit::keys::different_keys;
 use testkit::traffic::{Arrival, Noise, Sizes, Traffic};
 use testkit::Random;
@@ -35,6 +36,8 @@ pub struct Trace {
     pub notes: Vec<&'static str>,
     /// How many images there are of each length.
     pub lengths: [u64; 14],
+    /// Of each record, whether its image has a count code of 9 to 15.
+    pub over_8: Vec<bool>,
 }
 
 /// Appends a record.
@@ -134,6 +137,7 @@ impl Trace {
             damage: None,
             notes: Vec::new(),
             lengths: [0; 14],
+            over_8: Vec::new(),
         };
         if dense {
             trace.push_dense(&mut random);
@@ -171,6 +175,8 @@ impl Trace {
         self.records += 1;
         self.notes.extend(arrival.note);
         self.lengths[arrival.image.len()] += 1;
+        self.over_8
+            .push(is_over_8(&arrival.image, Format::Extended));
     }
 }
 
@@ -232,6 +238,7 @@ mod tests {
             assert_eq!(found, (trace.records, trace.damage.is_some()));
             let images: u64 = trace.lengths.iter().sum();
             assert_eq!(images as usize, trace.records);
+            assert_eq!(trace.over_8.len(), trace.records);
         }
     }
 

@@ -86,17 +86,14 @@ fn compare_one(
     number: u64,
 ) -> Result<(), String> {
     let way = Way::draw(trace, &mut Random::of_item(!seed, number));
-    let first = by_program(&mut Command::new(programs.listing), trace, &way)?;
-    let second = by_second(&trace.bytes, &way)?;
-    check_equal(("program", &first), ("second", &second))?;
+    let second = list(programs, &trace.bytes, &way)?;
     if let Some(also) = programs.also.filter(|_| number.is_multiple_of(ALSO_EVERY)) {
-        let third = by_program(&mut split(also), trace, &Way::AtOnce)?;
-        check_equal((also, &third), ("second", &second))?;
+        list_also(also, &trace.bytes, &second)?;
         tally.count(&also_row(also));
     }
     count_way(&way, tally);
     let text = String::from_utf8(second).map_err(|_| "the listings are no text")?;
-    let records = observe::observe(&text, tally);
+    let records = observe::observe(&text, &trace.over_8, tally);
     if records != Some(trace.records) {
         return Err(format!(
             "both listings say {records:?}, but the trace has {} records",
@@ -104,6 +101,20 @@ fn compare_one(
         ));
     }
     Ok(())
+}
+
+/// Has a trace listed by the program and the second one, and gives the listing if they write the same.
+pub fn list(programs: &Programs, trace: &[u8], way: &Way) -> Result<Vec<u8>, String> {
+    let first = by_program(&mut Command::new(programs.listing), trace, way)?;
+    let second = by_second(trace, way)?;
+    check_equal(("program", &first), ("second", &second))?;
+    Ok(second)
+}
+
+/// Has a trace listed by a third program, too.
+pub fn list_also(also: &str, trace: &[u8], second: &[u8]) -> Result<(), String> {
+    let third = by_program(&mut split(also), trace, &Way::AtOnce)?;
+    check_equal((also, &third), ("second", second))
 }
 
 /// A command from its words.
@@ -115,7 +126,7 @@ fn split(words: &str) -> Command {
 }
 
 /// How a trace is handed to a program.
-enum Way<'a> {
+pub enum Way<'a> {
     AtOnce,
     /// In parts of that size.
     Parts(usize),
@@ -136,8 +147,7 @@ impl<'a> Way<'a> {
     }
 }
 
-fn by_program(command: &mut Command, trace: &Trace, way: &Way) -> Result<Vec<u8>, String> {
-    let bytes = &trace.bytes;
+fn by_program(command: &mut Command, bytes: &[u8], way: &Way) -> Result<Vec<u8>, String> {
     match *way {
         Way::AtOnce => program::run(command, |input| input.write_all(bytes), take_all),
         Way::Parts(size) => program::run(command, |input| drip(input, bytes, size), take_all),
