@@ -132,6 +132,31 @@ EDITS = {
         ("Flag::Middle => count == 8 && (1..=254)", "Flag::Middle => count == 8 && (0..=254)"),
         ("Flag::End => number >= 1 && count", "Flag::End => count"),
         ("if number == 1 { 3 } else { 2 }", "3"),
+        # L3: the codes 9 to 15 are read as 8.
+        (
+            "let count = (byte & 0b1111).min(MAX_COUNT as u8);",
+            "let count = (byte & 0b1111).min(MAX_COUNT as u8); if byte & 0b1111 == 9 { return Err(Refusal::Count); }",
+        ),
+        (
+            "let count = (byte & 0b1111).min(MAX_COUNT as u8);",
+            "let count = match byte & 0b1111 { 15 => 7, code => code.min(MAX_COUNT as u8) };",
+        ),
+        ("(byte & 0b1111).min(MAX_COUNT as u8)", "(byte & 0b1111)"),
+        ("return Err(Refusal::Count); } Ok(count)", "return Err(Refusal::Count); } Ok(byte & 0b1111)"),
+        ("usize::from(count) != data.len()", "byte & 0b1111 <= 8 && usize::from(count) != data.len()"),
+        (
+            "let count = judge_count(header[0], data)?;",
+            "let count = judge_count(header[0], data)?; if header[0] & 0b1111 > 8 { return Err(Refusal::Count); }",
+        ),
+        (
+            "let count = judge_count(header[1], data)?;",
+            "let count = judge_count(header[1], data)?; if header[1] & 0b1111 > 8 { return Err(Refusal::Count); }",
+        ),
+        (
+            " let count = judge_count(header[0], data)?; let flag",
+            " if header[0] & 0b1111 > 8 && header[3] >> 6 == 1 && header[3] & 0b11_1111 != 0"
+            " { return Err(Refusal::Piece); } let count = judge_count(header[0], data)?; let flag",
+        ),
     ],
     "split.rs": [
         ("if output.len() < image.len()", "if output.len() <= image.len()"),

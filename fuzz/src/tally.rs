@@ -6,6 +6,7 @@ use second::format::Format;
 use second::interface::{format_of, refused, KEPT, MASTER_SIZE, PACKET, STATION_SIZE};
 use second::refusal::Refusal;
 use second::split::piece_count;
+use testkit::damage::is_over_8;
 use testkit::FORMATS;
 
 use crate::bench::Parts;
@@ -126,6 +127,11 @@ fn packet_cases(function: Function) -> Cases {
                 ("kept", BOTH),
                 ("kept, broke", BOTH),
                 ("filtered", BOTH),
+                // These are counted among the others too.
+                ("packet, count code over 8", BOTH),
+                ("kept, count code over 8", BOTH),
+                ("4 COUNT, count code over 8", BOTH),
+                ("5 PIECE, count code over 8", BOTH),
             ],
             &[
                 (Refusal::Length, BOTH),
@@ -207,7 +213,10 @@ fn master_cases(function: Function) -> Cases {
 
 /// Refusals have the places of `Refusal::ALL`; answers follow.
 const ANSWERS_AT: usize = Refusal::ALL.len();
-const PLACES: usize = ANSWERS_AT + 8;
+const PLACES: usize = ANSWERS_AT + 11;
+
+/// Where the cases of a count code over 8 stand among the answers of receiving.
+const CODES_AT: usize = ANSWERS_AT + 7;
 
 /// The columns by name.
 const COLUMNS: [&str; 3] = ["extended", "standard", "-"];
@@ -245,7 +254,11 @@ impl Tally {
         let mut refusals = Refusal::ALL.iter();
         let refusal = refusals.position(|&refusal| refused(refusal) == answer);
         let place = refusal.unwrap_or_else(|| ANSWERS_AT + kind_of(call, before, answer));
-        self.counts[call.function() as usize][place][column] += 1;
+        let counts = &mut self.counts[call.function() as usize];
+        counts[place][column] += 1;
+        if let Some(code) = code_case(call, before, answer) {
+            counts[CODES_AT + code][column] += 1;
+        }
         if let Call::write_piece {
             packet: Bytes::Own(packet),
             ..
@@ -436,6 +449,27 @@ fn received(before: &Before, answer: u32) -> usize {
     }
 }
 
+/// The place among the cases of a count code over 8 of an image received that has one.
+fn code_case(call: &Call, before: &Before, answer: u32) -> Option<usize> {
+    let Call::receive {
+        image: Bytes::Own(image),
+        ..
+    } = call
+    else {
+        return None;
+    };
+    if !is_over_8(image, before.station_format?) {
+        return None;
+    }
+    let kinds = [
+        answer >> 16 & 0xFEFF == PACKET,
+        answer >> 16 & 0xFEFF == KEPT,
+        answer == refused(Refusal::Count),
+        answer == refused(Refusal::Piece),
+    ];
+    kinds.iter().position(|&is| is)
+}
+
 fn packet_of(before: &Before, length: usize) -> usize {
     match before.station_format {
         Some(format) if length == format.packet_limit() => 2,
@@ -554,6 +588,46 @@ mod tests {
         tally.count(&call, &before, refused(Refusal::Long));
         let fault = "came up but cannot: receive 8 LONG standard";
         assert!(tally.faults().contains(&fault.into()));
+    }
+
+    /// What is lacking of the cases of a count code over 8 after one image received in extended.
+    fn lacking_codes(image: &[u8], answer: u32) -> Vec<String> {
+        let mut tally = Tally::new();
+        let call = Call::receive {
+            station: STATION,
+            store: STORE,
+            bus: 0,
+            image: Bytes::Own(image.to_vec()),
+        };
+        tally.count(&call, &Before::of(&parts(Format::Extended)), answer);
+        let of_codes = |fault: &String| fault.contains("over 8 extended");
+        tally.faults().into_iter().filter(of_codes).collect()
+    }
+
+    #[test]
+    fn codes_over_8_are_counted_by_what_becomes_of_them() {
+        let image = |code: u8| [0x80 | code, 0x45, 0, 0xC0, 0x10, 1, 2, 3, 4, 5, 6, 7, 8];
+        for (answer, case) in [
+            (0x0004_0008, "packet"),
+            (0x0104_0008, "packet"),
+            (0x0005_0000, "kept"),
+            (0x0105_0000, "kept"),
+            (refused(Refusal::Count), "4 COUNT"),
+            (refused(Refusal::Piece), "5 PIECE"),
+        ] {
+            let fault = format!("never came up: receive {case}, count code over 8 extended");
+            for code in 9..=15 {
+                let lacking = lacking_codes(&image(code), answer);
+                assert!(
+                    lacking.len() == 3 && !lacking.contains(&fault),
+                    "{lacking:?}"
+                );
+            }
+            assert!(lacking_codes(&image(8), answer).contains(&fault));
+        }
+        for refusal in [Refusal::Remote, Refusal::Orphan, Refusal::Store] {
+            assert_eq!(lacking_codes(&image(12), refused(refusal)).len(), 4);
+        }
     }
 
     #[test]
