@@ -1,5 +1,5 @@
 //! Compares what becomes of every count code before every number of data bytes, one too many included, with every flag:
-//! listed, judged, and received at both fronts.
+//! judged, received at both fronts, and listed.
 
 use crate::exchange;
 use crate::request::{self, judged, Request, BY_COUNT, CLOSED, COLLECTING, DONE, IDLE};
@@ -29,7 +29,6 @@ const RECEIVED: [&str; 2] = ["received at front 0", "received at front 1"];
 /// Puts every case to the programs and the second one.
 pub fn compare(programs: &Programs, calls: &Path) -> Result<(), String> {
     let mut counts = Counts::new();
-    let listed = compare_listed(programs, &mut counts)?;
     let (mut images, mut frames) = (0, 0);
     for format in FORMATS {
         let script = judge_script(format);
@@ -39,9 +38,10 @@ pub fn compare(programs: &Programs, calls: &Path) -> Result<(), String> {
             frames += compare_calls(calls, &script, (way, format), &mut counts)?;
         }
     }
+    let listed = compare_listed(programs, &mut counts)?;
     counts.results.print();
     counts.check()?;
-    println!("equal: {listed} records listed, {images} images judged, {frames} images received");
+    println!("equal: {images} images judged, {frames} images received, {listed} records listed");
     Ok(())
 }
 
