@@ -1,5 +1,6 @@
-//! The receiving and sending rules of document 01, written a second time and
-//! in plain form, so that two programs can be compared answer by answer.
+//! The receiving and sending rules of document 01, with L3 of document 02,
+//! written a second time and in plain form, so that two programs can be
+//! compared answer by answer.
 //!
 //! The rules stand in `format`, `key`, `frame`, `split`, `stream`, `station`,
 //! `trace`, `filter`, `master` and `watch`; `listing` and `script` are the two
