@@ -18,7 +18,7 @@ use Rattle.format.specs.Formats.{headerSize, formatOf, flagBits, packetStart}
 use Rattle.format.proofs.Checks.{refused-where}
 use Rattle.frame.specs.Layout.{flagOf, layout}
 use Rattle.frame.specs.Judge.{dataCount, Frame, checks, judge}
-use Rattle.frame.specs.Image.{headerBytes, imageWith, countCode, withCode}
+use Rattle.frame.specs.Image.{dataOf, headerBytes, imageWith, imageOf, countCode, withCode}
 use Rattle.frame.specs.Claims.{SaysEight, CodeFor, CodesAlike, CountIsLength}
 use Rattle.frame.proofs.Flags.{bits-small}
 
@@ -60,7 +60,7 @@ module _ (x y : ℕ) (rest : List ℕ) (upper : x / 16 ≡ y / 16) (says : Same 
   extended-alike =
       let rtr : x / 64 ≡ y / 64 = sym (div-div-eq-div-mul x 16 4) ∙ ap (λ q. q / 4) upper ∙ div-div-eq-div-mul y 16 4 in
       let one : x / 128 ≡ y / 128 = sym (div-div-eq-div-mul x 16 8) ∙ ap (λ q. q / 8) upper ∙ div-div-eq-div-mul y 16 8 in
-      rw (one, upper, rtr, says)
+      simp (one, upper, rtr, says)
 
 -- the packet bytes stand behind byte 1
 behind : (flag : Flag) (b0 x y : ℕ) (rest : List ℕ)
@@ -76,7 +76,7 @@ module _ (b0 x y : ℕ) (rest : List ℕ) (upper : x / 16 ≡ y / 16) (says : Sa
   standard-alike =
       let flag : x / 32 ≡ y / 32 = sym (div-div-eq-div-mul x 16 2) ∙ ap (λ q. q / 2) upper ∙ div-div-eq-div-mul y 16 2 in
       let side : x / 128 ≡ y / 128 = sym (div-div-eq-div-mul x 16 8) ∙ ap (λ q. q / 8) upper ∙ div-div-eq-div-mul y 16 8 in
-      rw (flag, side, upper, says, behind (flagOf (y / 32 % 4)) b0 x y rest)
+      simp (flag, side, upper, says, behind (flagOf (y / 32 % 4)) b0 x y rest)
 
 module _ (q code : ℕ) (h : SaysEight code) where
   same-upper : (16 * q + code) / 16 ≡ (16 * q + 8) / 16
@@ -116,6 +116,17 @@ with-code frame code other h = go (frame .fields)
         let e : 16 * ((128 * side + 32 * flagBits (frame .flag) + code) / 16) + other ≡ 128 * side + 32 * flagBits (frame .flag) + other =
         omega arith in
         rw e
+
+-- the image that is sent has the count for its code
+pub code-sent : (frame : Frame) → length (dataOf frame) ≤ 8 → countCode (formatOf (frame .fields)) (imageOf frame) ≡ length (dataOf frame)
+unfolding imageOf headerBytes layout
+code-sent frame h = go (frame .fields) h
+  where
+    go : (fields : Fields)
+        → let f : Frame = record { fields = fields; flag = frame .flag; number = frame .number; bytes = frame .bytes } in
+        length (dataOf f) ≤ 8 → countCode (formatOf fields) (imageOf f) ≡ length (dataOf f)
+    go (Extended priority source group destination function) l = omega arith
+    go (Standard priority address side) l = omega arith
 
 -- ---- COUNT
 

@@ -24,9 +24,9 @@ use Rattle.format.proofs.Checks.{pass, none-left, Passed, passed}
 use Rattle.frame.specs.Layout.{flagOf, layout}
 use Rattle.frame.specs.Judge.{Frame, dataCount, pieceRule, checks, readBy, judge}
 use Rattle.frame.specs.Image.{dataOf, headerBytes, imageWith, imageOf, countCode, withCode, soundFrame}
-use Rattle.frame.specs.Claims.{Bytes, ImageIsJudged, SaysEight, CodeFor, CodesAlike, EachCodeIsJudged, IsImage, JudgedIsImage, OneImage}
+use Rattle.frame.specs.Claims.{Bytes, ImageIsJudged, SaysEight, CodeFor, CodesAlike, EachCodeIsJudged, CountSent, IsImage, JudgedIsImage, OneImage}
 use Rattle.frame.proofs.Flags.{bits-small, flag-of-bits, bits-of-flag}
-use Rattle.frame.proofs.CountCodes.{few-said, code-for, codes-alike, with-code}
+use Rattle.frame.proofs.CountCodes.{few-said, code-for, codes-alike, with-code, code-sent}
 
 -- a piece that keeps its rule has eight data bytes at most
 pub rule-count : (fm : Format) (flag : Flag) (count number : ℕ) → pieceRule fm flag count number ≡ true → count ≤ 8
@@ -284,6 +284,14 @@ each-code-is-judged frame code s c = go (eqb (length (dataOf frame)) 8) refl
         ∙ ap (λ (k : ℕ). judge fm (imageWith k frame)) (sym n)
         ∙ image-is-judged frame s
     go false e = ap (λ (k : ℕ). judge fm (imageWith k frame)) (c .other (eqb-false _ _ e)) ∙ image-is-judged frame s
+
+pub count-sent : CountSent
+unfolding CountSent soundFrame
+count-sent frame s =
+    let t = each _ s in
+    let few : length (dataOf frame) ≤ 8 =
+    rule-count (formatOf (frame .fields)) (frame .flag) (length (dataOf frame)) (frame .number) (t .1 .1 .0) in
+    (code-sent frame few, few)
 
 code-small : (fm : Format) (image : List ℕ) → countCode fm image < 16
 unfolding layout

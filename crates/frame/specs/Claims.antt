@@ -49,6 +49,12 @@ EachCodeIsJudged =
     → judge (formatOf (frame .fields)) (imageWith code frame)
     ≡ value (record { frame = frame; start = packetStart (formatOf (frame .fields)) (frame .flag) })
 
+-- "The writer still sends 8": the image that is sent has for its code the count itself, eight at most
+unfoldable pub CountSent : Type 0
+CountSent =
+    (frame : Frame) → soundFrame frame ≡ true
+    → (countCode (formatOf (frame .fields)) (imageOf frame) ≡ length (dataOf frame)) × (length (dataOf frame) ≤ 8)
+
 -- "4 is now only a length that disagrees"
 unfoldable pub CountIsLength : Type 0
 CountIsLength =

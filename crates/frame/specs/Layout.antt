@@ -22,7 +22,8 @@ flagOf bits =
 -- byte 3: flag (2), number (6); byte 4: function (5), 000; then the data bytes.
 -- Standard: byte 0: priority (2), address (6); byte 1: side (1), flag (2), RTR, count (4); then data. The side is 0 in a frame that the
 -- master sent and 1 in one that a slave sent.
--- `fixed` says whether the fixed bits are right. A standard single has no number, for which 0 stands.
+-- `fixed` says whether the fixed bits are right, and `code` is what stands in the four bits of the count (Judge: `dataCount` says what it
+-- means). A standard single has no number, for which 0 stands.
 unfoldable pub layout : Format → List ℕ → Layout
 layout Extended image =
     let byte : ℕ → ℕ = λ i. getD image i 0 in

@@ -10,10 +10,10 @@ ghost use lib.ListN.{length, getD};
 ghost use Rattle.format.specs.Formats.{headerSize};
 ghost use Rattle.frame.specs.Layout.{flagOf, layout};
 ghost use Rattle.frame.specs.Judge.{dataCount, pieceRule, judge, meaning};
-ghost use Rattle.frame.specs.Claims.{ImageIsJudged, CodesAlike, EachCodeIsJudged, CountIsLength, JudgedIsImage, OneImage, OneVerdict};
+ghost use Rattle.frame.specs.Claims.{ImageIsJudged, CodesAlike, EachCodeIsJudged, CountSent, CountIsLength, JudgedIsImage, OneImage, OneVerdict};
 ghost use Rattle.frame.specs.Bounds.{JudgingBounds};
 
-// What stands in the bits of an image, right or wrong.
+// What stands in the bits of an image, right or wrong; `code` in those of the count.
 struct Layout {
     pub fixed: bool,
     pub rtr: u8,
@@ -226,6 +226,7 @@ pub fn promised()
     ensures image_is_judged { λ _. ⌜ ImageIsJudged ⌝ }
     ensures codes_alike { λ _. ⌜ CodesAlike ⌝ }
     ensures each_code_is_judged { λ _. ⌜ EachCodeIsJudged ⌝ }
+    ensures count_sent { λ _. ⌜ CountSent ⌝ }
     ensures count_is_length { λ _. ⌜ CountIsLength ⌝ }
     ensures judged_is_image { λ _. ⌜ JudgedIsImage ⌝ }
     ensures one_image { λ _. ⌜ OneImage ⌝ }

@@ -2,12 +2,15 @@
 use Rattle.frame.proofs.promised.Statement.{statement}
 use Rattle.frame.proofs.promised.Tie as tie
 use Rattle.frame.proofs.CountCodes.{codes-alike, count-is-length}
-use Rattle.frame.proofs.Images.{image-is-judged, each-code-is-judged, judged-is-image, one-image}
+use Rattle.frame.proofs.Images.{image-is-judged, each-code-is-judged, count-sent, judged-is-image, one-image}
 use Rattle.frame.proofs.Verdicts.{one-verdict}
 use Rattle.frame.proofs.Bounds.{judging-bounds}
 
 returns : tie.Need-returns
-returns c = (image-is-judged, (codes-alike, (each-code-is-judged, (count-is-length, (judged-is-image, (one-image, (one-verdict, judging-bounds)))))))
+returns c = (
+  image-is-judged,
+  (codes-alike, (each-code-is-judged, (count-sent, (count-is-length, (judged-is-image, (one-image, (one-verdict, judging-bounds))))))),
+)
 
 pub promised-spec : {M : Type 1} → statement M
 promised-spec = tie.close (tie.spec returns)
