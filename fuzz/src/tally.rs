@@ -72,7 +72,8 @@ fn cases(function: Function) -> Cases {
             ],
         ),
         Function::station_new | Function::open | Function::close => return slot_cases(function),
-        Function::receive | Function::read => return packet_cases(function),
+        Function::receive => return RECEIVE_CASES,
+        Function::read => return READ_CASES,
         Function::filter_accepts | Function::row_accepts => {
             (&[("not accepted", NONE), ("accepted", NONE)], &[])
         }
@@ -116,53 +117,49 @@ fn slot_cases(function: Function) -> Cases {
     Cases { answers, refusals }
 }
 
-fn packet_cases(function: Function) -> Cases {
-    let (answers, refusals): (&[_], &[_]) = match function {
-        Function::receive => (
-            &[
-                ("packet", BOTH),
-                ("packet of 0 bytes", BOTH),
-                ("packet of the limit", BOTH),
-                ("packet, broke", BOTH),
-                ("kept", BOTH),
-                ("kept, broke", BOTH),
-                ("filtered", BOTH),
-                // These are counted among the others too.
-                ("packet, count code over 8", BOTH),
-                ("kept, count code over 8", BOTH),
-                ("4 COUNT, count code over 8", BOTH),
-                ("5 PIECE, count code over 8", BOTH),
-            ],
-            &[
-                (Refusal::Length, BOTH),
-                (Refusal::Form, EXTENDED),
-                (Refusal::Remote, BOTH),
-                (Refusal::Count, BOTH),
-                (Refusal::Piece, BOTH),
-                (Refusal::Orphan, BOTH),
-                (Refusal::Step, BOTH),
-                (Refusal::Long, EXTENDED),
-                (Refusal::Field, BOTH),
-                (Refusal::Store, BOTH),
-                (Refusal::State, NONE),
-            ],
-        ),
-        _ => (
-            &[
-                ("packet", BOTH),
-                ("packet of 0 bytes", BOTH),
-                ("packet of the limit", BOTH),
-            ],
-            &[
-                (Refusal::Store, BOTH),
-                (Refusal::Closed, BOTH),
-                (Refusal::NoPacket, BOTH),
-                (Refusal::State, NONE),
-            ],
-        ),
-    };
-    Cases { answers, refusals }
-}
+const RECEIVE_CASES: Cases = Cases {
+    answers: &[
+        ("packet", BOTH),
+        ("packet of 0 bytes", BOTH),
+        ("packet of the limit", BOTH),
+        ("packet, broke", BOTH),
+        ("kept", BOTH),
+        ("kept, broke", BOTH),
+        ("filtered", BOTH),
+        // These are counted among the others too.
+        ("packet, count code over 8", BOTH),
+        ("kept, count code over 8", BOTH),
+        ("4 COUNT, count code over 8", BOTH),
+        ("5 PIECE, count code over 8", BOTH),
+    ],
+    refusals: &[
+        (Refusal::Length, BOTH),
+        (Refusal::Form, EXTENDED),
+        (Refusal::Remote, BOTH),
+        (Refusal::Count, BOTH),
+        (Refusal::Piece, BOTH),
+        (Refusal::Orphan, BOTH),
+        (Refusal::Step, BOTH),
+        (Refusal::Long, EXTENDED),
+        (Refusal::Field, BOTH),
+        (Refusal::Store, BOTH),
+        (Refusal::State, NONE),
+    ],
+};
+
+const READ_CASES: Cases = Cases {
+    answers: &[
+        ("packet", BOTH),
+        ("packet of 0 bytes", BOTH),
+        ("packet of the limit", BOTH),
+    ],
+    refusals: &[
+        (Refusal::Store, BOTH),
+        (Refusal::Closed, BOTH),
+        (Refusal::NoPacket, BOTH),
+        (Refusal::State, NONE),
+    ],
+};
 
 fn master_cases(function: Function) -> Cases {
     let (answers, refusals): (&[_], &[_]) = match function {
