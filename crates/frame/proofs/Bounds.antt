@@ -9,7 +9,8 @@ use Rattle.format.specs.Refusals.{value, guarded}
 use Rattle.format.proofs.Tables.{by-test, sameBool, same-bool, sameResult, same-result}
 use Rattle.frame.specs.Layout.{flagOf, layout}
 use Rattle.frame.specs.Judge.{pieceRule, checks, judge}
-use Rattle.frame.specs.Bounds.{Bound, rules, judges, reads, pieceTable, imageTable, codeTable, layoutTable, refusalOf, Holds, JudgingBounds}
+use Rattle.frame.specs.Bounds.{Bound, rules, judges, reads, refusalOf, Holds, JudgingBounds}
+use Rattle.frame.specs.Bounds.{pieceTable, imageTable, codeTable, layoutTable}
 use Rattle.frame.proofs.Codes.{sameJudged, same-judged}
 
 abbrev test : Bound → Bool

@@ -24,7 +24,8 @@ use Rattle.format.proofs.Checks.{pass, none-left, Passed, passed}
 use Rattle.frame.specs.Layout.{flagOf, layout}
 use Rattle.frame.specs.Judge.{Frame, dataCount, pieceRule, checks, readBy, judge}
 use Rattle.frame.specs.Image.{dataOf, headerBytes, imageWith, imageOf, countCode, withCode, soundFrame}
-use Rattle.frame.specs.Claims.{Bytes, ImageIsJudged, SaysEight, CodeFor, CodesAlike, EachCodeIsJudged, CountSent, IsImage, JudgedIsImage, OneImage}
+use Rattle.frame.specs.Claims.{Bytes, ImageIsJudged, IsImage, JudgedIsImage, OneImage}
+use Rattle.frame.specs.Claims.{SaysEight, CodeFor, CodesAlike, EachCodeIsJudged, CountSent}
 use Rattle.frame.proofs.Flags.{bits-small, flag-of-bits, bits-of-flag}
 use Rattle.frame.proofs.CountCodes.{few-said, code-for, codes-alike, with-code, code-sent}
 

@@ -10,7 +10,8 @@ ghost use lib.ListN.{length, getD};
 ghost use Rattle.format.specs.Formats.{headerSize};
 ghost use Rattle.frame.specs.Layout.{flagOf, layout};
 ghost use Rattle.frame.specs.Judge.{dataCount, pieceRule, judge, meaning};
-ghost use Rattle.frame.specs.Claims.{ImageIsJudged, CodesAlike, EachCodeIsJudged, CountSent, CountIsLength, JudgedIsImage, OneImage, OneVerdict};
+ghost use Rattle.frame.specs.Claims.{ImageIsJudged, JudgedIsImage, OneImage, OneVerdict};
+ghost use Rattle.frame.specs.Claims.{CodesAlike, EachCodeIsJudged, CountSent, CountIsLength};
 ghost use Rattle.frame.specs.Bounds.{JudgingBounds};
 
 // What stands in the bits of an image, right or wrong; `code` in those of the count.
