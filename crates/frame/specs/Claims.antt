@@ -27,7 +27,7 @@ ImageIsJudged =
 
 -- ---- count codes: document 02, L3
 
--- eight data bytes have a code of 8 to 15
+-- a code that says eight data bytes: 8 to 15
 abbrev pub SaysEight : (code : ℕ) → Type 0
 SaysEight code = (8 ≤ code) × (code ≤ 15)
 
