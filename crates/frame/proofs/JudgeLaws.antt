@@ -29,6 +29,11 @@ second-fails : (a b : Bool) → a ≡ true → b ≡ false → allTrue (a ∷ b 
 unfolding allTrue
 second-fails a b p q = rw (p, q)
 
+-- what the piece rule decides, once all other checks have passed
+pub record ByRule (format : Format) (image : List ℕ) (said : Layout) (rule : Bool) : Type 0 where
+  pub broken : not rule ≡ true → refused 5 ≡ judge format image
+  pub kept : not rule ≡ false → value (readBy said image) ≡ judge format image
+
 -- header, number of data bytes and layout, as the code has them
 module _ (format : Format) (image : List ℕ) (said : Layout) (e : said ≡ layout format image) (header : ℕ) (eh : header ≡ headerSize format) where
   judged : {r : Result Judged} → r ≡ guarded (checks format (length image) said) (readBy said image) → r ≡ judge format image
@@ -81,17 +86,17 @@ module _ (format : Format) (image : List ℕ) (said : Layout) (e : said ≡ layo
             counted : eqb (length image) (headerSize format + dataCount (said .code)) ≡ true
             counted = let m : length image ≡ headerSize format + count = omega arith in rw (← ec) (eq-eqb _ _ m)
 
-            pub unruled : not rule ≡ true → refused 5 ≡ judge format image
+            pub by-rule : ByRule format image said rule
             unfolding checks
-            unruled p =
-                judged
-                (pass Length _ _ sized
-                (pass Form _ _ f (pass Remote _ _ r (pass Count _ _ counted (stop Piece _ _ (rw (← ec) (sym er ∙ not-true rule p)))))))
-
-            pub ruled : not rule ≡ false → value (readBy said image) ≡ judge format image
-            unfolding checks
-            ruled p =
-                judged
-                (pass Length _ _ sized
-                (pass Form _ _ f
-                (pass Remote _ _ r (pass Count _ _ counted (pass Piece _ _ (rw (← ec) (sym er ∙ not-false rule p)) (none-left _))))))
+            by-rule =
+                record {
+                  broken = λ p.
+                      judged
+                      (pass Length _ _ sized
+                      (pass Form _ _ f (pass Remote _ _ r (pass Count _ _ counted (stop Piece _ _ (rw (← ec) (sym er ∙ not-true rule p)))))));
+                  kept = λ p.
+                      judged
+                      (pass Length _ _ sized
+                      (pass Form _ _ f
+                      (pass Remote _ _ r (pass Count _ _ counted (pass Piece _ _ (rw (← ec) (sym er ∙ not-false rule p)) (none-left _))))));
+                }

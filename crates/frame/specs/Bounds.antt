@@ -1,7 +1,7 @@
 -- Document 01, "Frame images" and the piece rules: every end of every range, from both sides, the order of refusals 1 to 5, and what
 -- stands where; and document 02, L3: what each count code says. The figures are literals, so that one changed alike in a definition and in
 -- the code breaks the claim. proofs/Bounds.antt proves it.
-use Prim.Native.Nat.{ℕ}
+use Prim.Native.Nat.{ℕ, _+_}
 use mathlib.Core.Path.{_≡_}
 use mathlib.Core.Bool.{Bool, true, false}
 use mathlib.Core.List.{List, [], _∷_, _++_}
@@ -90,9 +90,10 @@ imageTable =
     ∷ judges Extended (extended 0x80 0xC0 0x10 0) 0
     ∷ judges Extended (extended 0x88 0xC0 0x10 8) 0
     ∷ judges Extended (extended 0x89 0xC0 0x10 9) 1
-    -- length not header plus count: one less, one more
+    -- length not header plus count: one less, one more; and just that
     ∷ judges Extended (extended 0x81 0xC0 0x10 0) 4
     ∷ judges Extended (extended 0x87 0xC0 0x10 8) 4
+    ∷ judges Extended (extended 0x87 0xC0 0x10 7) 0
     -- each fixed bit
     ∷ judges Extended (extended 0x01 0xC0 0x10 1) 2
     ∷ judges Extended (extended 0xA1 0xC0 0x10 1) 2
@@ -122,6 +123,7 @@ imageTable =
     ∷ judges Standard (standard 0xE9 7 8) 1
     ∷ judges Standard (0x96 ∷ 0xE1 ∷ []) 4
     ∷ judges Standard (standard 0xE7 7 7) 4
+    ∷ judges Standard (standard 0xE7 7 6) 0
     ∷ judges Standard (standard 0xF1 7 0) 3
     ∷ judges Standard (standard 0xA8 0 7) 0
     ∷ judges Standard (standard 0xA8 1 7) 5
@@ -135,87 +137,44 @@ imageTable =
     ∷ judges Standard (standard 0xC2 1 0) 4
     ∷ []
 
--- document 02, L3: what each count code says
+-- each row with each of the count codes 8 to 15
+abbrev pub forCodes : List (ℕ → Bound) → List Bound
+forCodes [] = []
+forCodes (row ∷ rows) = row 8 ∷ row 9 ∷ row 10 ∷ row 11 ∷ row 12 ∷ row 13 ∷ row 14 ∷ row 15 ∷ forCodes rows
+
+-- document 02, L3: what is judged is the same with each of them
 abbrev pub codeTable : List Bound
 codeTable =
-    -- extended: a code of 8 to 15 is sound before eight data bytes, and COUNT before seven
-    judges Extended (extended 0x88 0xC0 0x10 8) 0
-    ∷ judges Extended (extended 0x89 0xC0 0x10 8) 0
-    ∷ judges Extended (extended 0x8A 0xC0 0x10 8) 0
-    ∷ judges Extended (extended 0x8B 0xC0 0x10 8) 0
-    ∷ judges Extended (extended 0x8C 0xC0 0x10 8) 0
-    ∷ judges Extended (extended 0x8D 0xC0 0x10 8) 0
-    ∷ judges Extended (extended 0x8E 0xC0 0x10 8) 0
-    ∷ judges Extended (extended 0x8F 0xC0 0x10 8) 0
-    ∷ judges Extended (extended 0x88 0xC0 0x10 7) 4
-    ∷ judges Extended (extended 0x89 0xC0 0x10 7) 4
-    ∷ judges Extended (extended 0x8A 0xC0 0x10 7) 4
-    ∷ judges Extended (extended 0x8B 0xC0 0x10 7) 4
-    ∷ judges Extended (extended 0x8C 0xC0 0x10 7) 4
-    ∷ judges Extended (extended 0x8D 0xC0 0x10 7) 4
-    ∷ judges Extended (extended 0x8E 0xC0 0x10 7) 4
-    ∷ judges Extended (extended 0x8F 0xC0 0x10 7) 4
-    -- before none; a code of 7 before seven and before eight
-    ∷ judges Extended (extended 0x89 0xC0 0x10 0) 4
-    ∷ judges Extended (extended 0x8F 0xC0 0x10 0) 4
-    ∷ judges Extended (extended 0x87 0xC0 0x10 7) 0
-    ∷ judges Extended (extended 0x87 0xC0 0x10 8) 4
-    -- it is read as 8 before the piece rules: a start, a middle and an end, and pieces that break their rules
-    ∷ judges Extended (extended 0x89 0x40 0x10 8) 0
-    ∷ judges Extended (extended 0x89 0x3F 0x10 8) 0
-    ∷ judges Extended (extended 0x89 0xBF 0x10 8) 0
-    ∷ judges Extended (extended 0x89 0x41 0x10 8) 5
-    ∷ judges Extended (extended 0x89 0xC1 0x10 8) 5
-    ∷ judges Extended (extended 0x8F 0x40 0x10 8) 0
-    ∷ judges Extended (extended 0x8F 0x3F 0x10 8) 0
-    ∷ judges Extended (extended 0x8F 0xBF 0x10 8) 0
-    ∷ judges Extended (extended 0x8F 0x41 0x10 8) 5
-    ∷ judges Extended (extended 0x8F 0xC1 0x10 8) 5
-    -- LENGTH, FORM and REMOTE come before it, and COUNT before PIECE
-    ∷ judges Extended (extended 0x8F 0xC0 0x10 9) 1
-    ∷ judges Extended (extended 0x99 0xC0 0x10 8) 2
-    ∷ judges Extended (extended 0x8F 0xC0 0x11 8) 2
-    ∷ judges Extended (extended 0xCC 0xC0 0x10 8) 3
-    ∷ judges Extended (extended 0xCC 0xC0 0x10 7) 3
-    ∷ judges Extended (extended 0x8C 0x41 0x10 7) 4
+    forCodes
+    -- extended: sound before eight data bytes, a piece of each flag; COUNT before seven and before none
+    ((λ code. judges Extended (extended (0x80 + code) 0xC0 0x10 8) 0)
+    ∷ (λ code. judges Extended (extended (0x80 + code) 0x40 0x10 8) 0)
+    ∷ (λ code. judges Extended (extended (0x80 + code) 0x3F 0x10 8) 0)
+    ∷ (λ code. judges Extended (extended (0x80 + code) 0xBF 0x10 8) 0)
+    ∷ (λ code. judges Extended (extended (0x80 + code) 0xC0 0x10 7) 4)
+    ∷ (λ code. judges Extended (extended (0x80 + code) 0xC0 0x10 0) 4)
+    -- a piece rule broken; LENGTH, FORM and REMOTE come before COUNT, and COUNT before PIECE
+    ∷ (λ code. judges Extended (extended (0x80 + code) 0xC1 0x10 8) 5)
+    ∷ (λ code. judges Extended (extended (0x80 + code) 0x41 0x10 8) 5)
+    ∷ (λ code. judges Extended (extended (0x80 + code) 0xC0 0x10 9) 1)
+    ∷ (λ code. judges Extended (extended (0x90 + code) 0xC0 0x10 7) 2)
+    ∷ (λ code. judges Extended (extended (0x80 + code) 0xC0 0x11 7) 2)
+    ∷ (λ code. judges Extended (extended (0xC0 + code) 0xC0 0x10 7) 3)
+    ∷ (λ code. judges Extended (extended (0x80 + code) 0x41 0x10 7) 4)
     -- standard: the same, where the eight data bytes include the number
-    ∷ judges Standard (standard 0xE8 7 7) 0
-    ∷ judges Standard (standard 0xE9 7 7) 0
-    ∷ judges Standard (standard 0xEA 7 7) 0
-    ∷ judges Standard (standard 0xEB 7 7) 0
-    ∷ judges Standard (standard 0xEC 7 7) 0
-    ∷ judges Standard (standard 0xED 7 7) 0
-    ∷ judges Standard (standard 0xEE 7 7) 0
-    ∷ judges Standard (standard 0xEF 7 7) 0
-    ∷ judges Standard (standard 0xE8 7 6) 4
-    ∷ judges Standard (standard 0xE9 7 6) 4
-    ∷ judges Standard (standard 0xEA 7 6) 4
-    ∷ judges Standard (standard 0xEB 7 6) 4
-    ∷ judges Standard (standard 0xEC 7 6) 4
-    ∷ judges Standard (standard 0xED 7 6) 4
-    ∷ judges Standard (standard 0xEE 7 6) 4
-    ∷ judges Standard (standard 0xEF 7 6) 4
-    ∷ judges Standard (0x96 ∷ 0xE9 ∷ []) 4
-    ∷ judges Standard (0x96 ∷ 0xEF ∷ []) 4
-    ∷ judges Standard (standard 0xE7 7 6) 0
-    ∷ judges Standard (standard 0xE7 7 7) 4
-    ∷ judges Standard (standard 0xA9 0 7) 0
-    ∷ judges Standard (standard 0x89 254 7) 0
-    ∷ judges Standard (standard 0xC9 255 7) 0
-    ∷ judges Standard (standard 0xA9 1 7) 5
-    ∷ judges Standard (standard 0x89 255 7) 5
-    ∷ judges Standard (standard 0xC9 0 7) 5
-    ∷ judges Standard (standard 0xAF 0 7) 0
-    ∷ judges Standard (standard 0x8F 254 7) 0
-    ∷ judges Standard (standard 0xCF 255 7) 0
-    ∷ judges Standard (standard 0xAF 1 7) 5
-    ∷ judges Standard (standard 0x8F 255 7) 5
-    ∷ judges Standard (standard 0xCF 0 7) 5
-    ∷ judges Standard (standard 0xEF 7 8) 1
-    ∷ judges Standard (standard 0xFC 7 7) 3
-    ∷ judges Standard (standard 0xFC 7 6) 3
-    ∷ judges Standard (standard 0xAC 1 6) 4
-    ∷ []
+    ∷ (λ code. judges Standard (standard (0xE0 + code) 7 7) 0)
+    ∷ (λ code. judges Standard (standard (0xA0 + code) 0 7) 0)
+    ∷ (λ code. judges Standard (standard (0x80 + code) 254 7) 0)
+    ∷ (λ code. judges Standard (standard (0xC0 + code) 255 7) 0)
+    ∷ (λ code. judges Standard (standard (0xE0 + code) 7 6) 4)
+    ∷ (λ code. judges Standard (0x96 ∷ (0xE0 + code) ∷ []) 4)
+    ∷ (λ code. judges Standard (standard (0xA0 + code) 1 7) 5)
+    ∷ (λ code. judges Standard (standard (0x80 + code) 255 7) 5)
+    ∷ (λ code. judges Standard (standard (0xC0 + code) 0 7) 5)
+    ∷ (λ code. judges Standard (standard (0xE0 + code) 7 8) 1)
+    ∷ (λ code. judges Standard (standard (0xF0 + code) 7 6) 3)
+    ∷ (λ code. judges Standard (standard (0xA0 + code) 1 6) 4)
+    ∷ [])
 
 abbrev judgedFrame : Fields → Flag → (number : ℕ) → (bytes : List ℕ) → (start : ℕ) → Judged
 judgedFrame said flag n bytes start =
