@@ -168,6 +168,7 @@ pub fn refusal_of(number: u8) -> Refusal
         18 => Refusal::Busy,
         19 => Refusal::Idle,
         20 => Refusal::NotAwaited,
+        25 => Refusal::Surplus,
         _ => Refusal::State,
     }
 }

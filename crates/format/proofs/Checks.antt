@@ -46,16 +46,16 @@ refused-by P [] h x n e = let z : _≡_ {A = ℕ} 0 1 = cc in absurd (omega arit
 refused-by P (check name true ∷ rest) h x n e = refused-by P rest (h .1) x n e
 refused-by P (check name false ∷ rest) h x n e = let z : number name ≡ n = cc in subst P z (h .0)
 
--- and that check fails: what follows from each check that fails, at its number, holds at the number that comes out
-abbrev pub EachFailing : (ℕ → Type 0) → List Check → Type 0
-EachFailing P [] = Unit {0}
-EachFailing P (check name ok ∷ rest) = (ok ≡ false → P (number name)) × EachFailing P rest
+-- and that check fails, where those before it hold: what follows from this, at each check's number, holds at the number that comes out
+abbrev pub EachFirst : (ℕ → Type 0) → List Check → Type 0
+EachFirst P [] = Unit {0}
+EachFirst P (check name ok ∷ rest) = (ok ≡ false → P (number name)) × (ok ≡ true → EachFirst P rest)
 
-pub refused-where : {A : Type 0} (P : ℕ → Type 0) (checks : List Check) → EachFailing P checks → (x : A) (n : ℕ)
+pub refused-where : {A : Type 0} (P : ℕ → Type 0) (checks : List Check) → EachFirst P checks → (x : A) (n : ℕ)
     → guarded checks x ≡ refused n → P n
 unfolding guarded
 refused-where P [] h x n e = let z : _≡_ {A = ℕ} 0 1 = cc in absurd (omega arith)
-refused-where P (check name true ∷ rest) h x n e = refused-where P rest (h .1) x n e
+refused-where P (check name true ∷ rest) h x n e = refused-where P rest (h .1 refl) x n e
 refused-where P (check name false ∷ rest) h x n e = let z : number name ≡ n = cc in subst P z (h .0 refl)
 
 -- the same before a result of its own

@@ -1,4 +1,5 @@
--- Document 01, "Refusal numbers": the table's numbers and names, "Each returns its number", and what an order of refusals means.
+-- Document 01, "Refusal numbers": the table's numbers and names, "Each returns its number", and what an order of refusals means. Document
+-- 02 adds 25 (L4). The numbers have gaps.
 use Prim.Native.Nat.{ℕ}
 use mathlib.Core.Bool.{Bool, cond}
 use mathlib.Core.List.{List, [], _∷_}
@@ -25,6 +26,7 @@ use Rattle.format.specs.declared.Refusal.the-variants.{
   Idle,
   NotAwaited,
   State,
+  Surplus,
 }
 use Rattle.format.specs.declared.Outcome.{Outcome}
 use Rattle.format.specs.declared.Outcome.the-variants.{Value, Refused}
@@ -51,6 +53,7 @@ number Busy = 18
 number Idle = 19
 number NotAwaited = 20
 number State = 21
+number Surplus = 25
 
 -- what a call gives: a value, or a refusal's number
 pub data Result (A : Type 0) : Type 0 where

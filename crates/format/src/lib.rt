@@ -189,7 +189,8 @@ impl Flag {
     }
 }
 
-// Why a call refused; document 01's name for each number, in the order of the numbers.
+// Why a call refused; the documents' name for each number, in the order of the numbers, which have
+// gaps.
 pub enum Refusal {
     Length,
     Form,
@@ -212,6 +213,7 @@ pub enum Refusal {
     Idle,
     NotAwaited,
     State,
+    Surplus,
 }
 
 impl Refusal {
@@ -240,6 +242,7 @@ impl Refusal {
             Refusal::Idle => 19,
             Refusal::NotAwaited => 20,
             Refusal::State => 21,
+            Refusal::Surplus => 25,
         }
     }
 }

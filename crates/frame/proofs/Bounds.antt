@@ -1,7 +1,6 @@
 -- The table of bounds, computed.
 use mathlib.Core.Path.{_≡_, refl}
 use mathlib.Core.Bool.{Bool, true}
-use mathlib.Core.List.{_++_}
 use lib.Dec.{eqb}
 use borrow.Author.Tests.{eqb-true}
 use Rattle.format.specs.Tests.{allAfter, allTrue}
@@ -9,8 +8,7 @@ use Rattle.format.specs.Refusals.{value, guarded}
 use Rattle.format.proofs.Tables.{by-test, sameBool, same-bool, sameResult, same-result}
 use Rattle.frame.specs.Layout.{flagOf, layout}
 use Rattle.frame.specs.Judge.{pieceRule, checks, judge}
-use Rattle.frame.specs.Bounds.{Bound, rules, judges, reads, refusalOf, Holds, JudgingBounds}
-use Rattle.frame.specs.Bounds.{pieceTable, imageTable, codeTable, layoutTable}
+use Rattle.frame.specs.Bounds.{Bound, rules, judges, reads, refusalOf, Holds, table, JudgingBounds}
 use Rattle.frame.proofs.Codes.{sameJudged, same-judged}
 
 abbrev test : Bound → Bool
@@ -25,4 +23,4 @@ says (reads format image judged) e = same-result sameJudged same-judged _ _ e
 
 pub judging-bounds : JudgingBounds
 unfolding JudgingBounds allAfter allTrue guarded flagOf layout pieceRule checks judge
-judging-bounds = by-test Holds test says (pieceTable ++ (imageTable ++ (codeTable ++ layoutTable))) refl
+judging-bounds = by-test Holds test says table refl

@@ -7,19 +7,18 @@ use native.Mathlib.Nat.{div-div-eq-div-mul}
 use native.Mathlib.Omega.{arith}
 use lib.Dec.{leb}
 use lib.ListN.{length, drop}
-use borrow.Author.Tests.{leb-true, leb-false, eqb-false, lt-leb}
+use borrow.Author.Tests.{leb-true, leb-false, lt-leb}
 use Rattle.format.specs.declared.Format.{Format}
 use Rattle.format.specs.declared.Format.the-variants as format
 use Rattle.format.specs.declared.Fields.{Fields}
 use Rattle.format.specs.declared.Fields.the-variants.{Extended, Standard}
 use Rattle.format.specs.declared.Flag.{Flag}
 use Rattle.format.specs.declared.Flag.the-variants.{Middle, Start, End, Single}
-use Rattle.format.specs.Formats.{headerSize, formatOf, flagBits, packetStart}
-use Rattle.format.proofs.Checks.{refused-where}
+use Rattle.format.specs.Formats.{formatOf, flagBits, packetStart}
 use Rattle.frame.specs.Layout.{flagOf, layout}
 use Rattle.frame.specs.Judge.{dataCount, Frame, checks, judge}
 use Rattle.frame.specs.Image.{dataOf, headerBytes, imageWith, imageOf, countCode, withCode}
-use Rattle.frame.specs.Claims.{SaysEight, CodeFor, CodesAlike, CountIsLength}
+use Rattle.frame.specs.Claims.{SaysEight, CodeFor, CodesAlike}
 use Rattle.frame.proofs.Flags.{bits-small}
 
 -- what a code says by its test, where the test's numbers are 9 and 8
@@ -127,15 +126,3 @@ code-sent frame h = go (frame .fields) h
         length (dataOf f) ≤ 8 → countCode (formatOf fields) (imageOf f) ≡ length (dataOf f)
     go (Extended priority source group destination function) l = omega arith
     go (Standard priority address side) l = omega arith
-
--- ---- COUNT
-
-pub count-is-length : CountIsLength
-unfolding CountIsLength judge checks
-count-is-length fm image e =
-    let Disagrees : ℕ → Type 0 = λ n. n ≡ 4 → length image ≡ headerSize fm + dataCount (countCode fm image) → ⊥ in
-    refused-where Disagrees (checks fm (length image) (layout fm image)) (
-      (λ _ q. absurd (omega arith)),
-      ((λ _ q. absurd (omega arith)), ((λ _ q. absurd (omega arith)), ((λ z _. eqb-false _ _ z), ((λ _ q. absurd (omega arith)), tt)))),
-    )
-    _ 4 e refl

@@ -16,17 +16,18 @@ use Rattle.format.specs.declared.Fields.{Fields}
 use Rattle.format.specs.declared.Fields.the-variants.{Extended, Standard}
 use Rattle.format.specs.declared.Flag.{Flag}
 use Rattle.format.specs.declared.Flag.the-variants.{Middle, Start, End, Single}
-use Rattle.format.specs.declared.Refusal.the-variants.{Length, Form, Remote, Count, Piece}
+use Rattle.format.specs.declared.Refusal.the-variants.{Length, Form, Remote, Count, Surplus, Piece}
 use Rattle.format.specs.Formats.{formatOf, numbered, inRange, flagBits, packetStart}
 use Rattle.format.specs.Refusals.{value}
 use Rattle.format.proofs.Tests.{each, from-each, tests}
-use Rattle.format.proofs.Checks.{pass, none-left, Passed, passed}
+use Rattle.format.proofs.Checks.{pass, none-left, passed}
 use Rattle.frame.specs.Layout.{flagOf, layout}
 use Rattle.frame.specs.Judge.{Frame, dataCount, pieceRule, checks, readBy, judge}
 use Rattle.frame.specs.Image.{dataOf, headerBytes, imageWith, imageOf, countCode, withCode, soundFrame}
 use Rattle.frame.specs.Claims.{Bytes, ImageIsJudged, IsImage, JudgedIsImage, OneImage}
 use Rattle.frame.specs.Claims.{SaysEight, CodeFor, CodesAlike, EachCodeIsJudged, CountSent}
 use Rattle.frame.proofs.Flags.{bits-small, flag-of-bits, bits-of-flag}
+use Rattle.frame.proofs.JudgeLaws.{Passing, passing}
 use Rattle.frame.proofs.CountCodes.{few-said, code-for, codes-alike, with-code, code-sent}
 
 -- a piece that keeps its rule has eight data bytes at most
@@ -70,7 +71,8 @@ module _ (priority source group destination function : ℕ) (flag : Flag) (n : �
       (pass Length _ _ (from-each _ (omega tests))
       (pass Form _ _ (from-each _ (eq-eqb _ _ one, (eq-eqb _ _ zeros, (eq-eqb _ _ low, tt))))
       (pass Remote _ _ (eq-eqb _ _ rtr)
-      (pass Count _ _ (rw count (omega tests)) (pass Piece _ _ (rw (flagged, count, number) (t .1 .1 .0)) (none-left _))))))
+      (pass Count _ _ (rw count (omega tests))
+      (pass Surplus _ _ (rw count (omega tests)) (pass Piece _ _ (rw (flagged, count, number) (t .1 .1 .0)) (none-left _)))))))
       ∙ (λ i.
       value
       (record {
@@ -127,7 +129,8 @@ module _ (priority address side : ℕ) (flag : Flag) (n : ℕ) (bytes : List ℕ
       (pass Length _ _ (from-each _ (omega tests))
       (pass Form _ _ refl
       (pass Remote _ _ (eq-eqb _ _ rtr)
-      (pass Count _ _ (rw count (omega tests)) (pass Piece _ _ (rw (number, flagged, count) rule) (none-left _))))))
+      (pass Count _ _ (rw count (omega tests))
+      (pass Surplus _ _ (rw count (omega tests)) (pass Piece _ _ (rw (number, flagged, count) rule) (none-left _)))))))
       ∙ (λ i.
       value
       (record {
@@ -152,9 +155,9 @@ number-small : (b : Bool) (n : ℕ) → n < 256 → cond b n 0 < 256
 number-small true n h = h
 number-small false n h = omega arith
 
-module _ (image : List ℕ) (small : Bytes image) (h : Passed (checks format.Extended (length image) (layout format.Extended image))) where
+module _ (image : List ℕ) (small : Bytes image) (p : Passing format.Extended (length image) (layout format.Extended image)) where
   extended-image : IsImage format.Extended image (readBy (layout format.Extended image) image)
-  unfolding checks layout imageOf headerBytes soundFrame inRange
+  unfolding layout imageOf headerBytes soundFrame inRange
   extended-image =
       let b0 = getD image 0 0 in
       let b1 = getD image 1 0 in
@@ -165,14 +168,12 @@ module _ (image : List ℕ) (small : Bytes image) (h : Passed (checks format.Ext
       let s2 : b2 < 256 = small 2 in
       let s3 : b3 < 256 = small 3 in
       let s4 : b4 < 256 = small 4 in
-      let size = each _ (h .0) in
-      let fixed = each _ (h .1 .0) in
-      let remote = h .1 .1 .0 in
-      let counted : length image ≡ 5 + dataCount (b0 % 16) = eqb-true _ _ (h .1 .1 .1 .0) in
-      let rule = h .1 .1 .1 .1 .0 in
+      let least : 5 ≤ length image = p .least in
+      let fixed = each _ (p .formed) in
+      let counted : length image ≡ 5 + dataCount (b0 % 16) = p .counted in
       let count : length (drop 5 image) ≡ dataCount (b0 % 16) = rw length-drop (omega tests) in
       let one : b0 / 64 / 2 ≡ 1 = div-div-eq-div-mul b0 64 2 ∙ eqb-true _ _ (fixed .0) in
-      let top : b0 / 64 ≡ 2 = sym (div-add-mod' (b0 / 64) 2) ∙ (λ i. one i * 2 + eqb-true (b0 / 64 % 2) 0 remote i) in
+      let top : b0 / 64 ≡ 2 = sym (div-add-mod' (b0 / 64) 2) ∙ (λ i. one i * 2 + p .data-frame i) in
       let quarter : b0 / 16 / 4 ≡ b0 / 64 = div-div-eq-div-mul b0 16 4 in
       let zeros : b0 / 16 % 4 ≡ 0 = eqb-true _ _ (fixed .1 .0) in
       let mid : b0 / 16 ≡ 8 = sym (div-add-mod' (b0 / 16) 4) ∙ (λ i. (quarter ∙ top) i * 4 + zeros i) in
@@ -185,7 +186,7 @@ module _ (image : List ℕ) (small : Bytes image) (h : Passed (checks format.Ext
       record {
         whole = (λ i. e0 i ∷ e1 i ∷ e2 i ∷ e3 i ∷ e4 i ∷ drop 5 image) ∙ sym (five image (omega tests));
         code = rw count (code-for (b0 % 16) (omega arith));
-        sound = from-each _ (from-each _ (omega tests), (omega tests, (rw count rule, tt)));
+        sound = from-each _ (from-each _ (omega tests), (omega tests, (rw count (p .rule), tt)));
         of-format = refl;
         starts = omega tests;
         carries = refl;
@@ -208,9 +209,9 @@ start-back Start size number h r = let u = each _ r in omega tests
 start-back Middle size number h r = let u = each _ r in omega tests
 start-back End size number h r = let u = each _ r in omega tests
 
-module _ (image : List ℕ) (small : Bytes image) (h : Passed (checks format.Standard (length image) (layout format.Standard image))) where
+module _ (image : List ℕ) (small : Bytes image) (p : Passing format.Standard (length image) (layout format.Standard image)) where
   standard-image : IsImage format.Standard image (readBy (layout format.Standard image) image)
-  unfolding checks layout imageOf headerBytes soundFrame inRange
+  unfolding layout imageOf headerBytes soundFrame inRange
   standard-image =
       let b0 = getD image 0 0 in
       let b1 = getD image 1 0 in
@@ -220,11 +221,11 @@ module _ (image : List ℕ) (small : Bytes image) (h : Passed (checks format.Sta
       let s0 : b0 < 256 = small 0 in
       let s1 : b1 < 256 = small 1 in
       let s2 : b2 < 256 = small 2 in
-      let size = each _ (h .0) in
-      let remote = h .1 .1 .0 in
-      let counted : length image ≡ 2 + dataCount (b1 % 16) = eqb-true _ _ (h .1 .1 .1 .0) in
+      let least : 2 ≤ length image = p .least in
+      let remote : b1 / 16 % 2 ≡ 0 = p .data-frame in
+      let counted : length image ≡ 2 + dataCount (b1 % 16) = p .counted in
       let count : length image - 2 ≡ dataCount (b1 % 16) = omega tests in
-      let rule : pieceRule format.Standard flag (length image - 2) n ≡ true = rw count (h .1 .1 .1 .1 .0) in
+      let rule : pieceRule format.Standard flag (length image - 2) n ≡ true = rw count (p .rule) in
       let back = data-back flag image n (omega tests) rule in
       let whole : length (cond (numbered format.Standard flag) (n ∷ drop (packetStart format.Standard flag) image) (drop (packetStart format.Standard flag) image)) ≡ length image - 2 =
       ap length back ∙ length-drop 2 image in
@@ -258,15 +259,15 @@ image-is-judged frame s = go (frame .fields) s
     go (Extended priority source group destination function) t = of-extended priority source group destination function (frame .flag) (frame .number) (frame .bytes) t
     go (Standard priority address side) t = of-standard priority address side (frame .flag) (frame .number) (frame .bytes) t
 
-is-image : (fm : Format) (image : List ℕ) → Bytes image → Passed (checks fm (length image) (layout fm image)) → IsImage fm image (readBy (layout fm image) image)
-is-image format.Extended image small h = extended-image image small h
-is-image format.Standard image small h = standard-image image small h
+is-image : (fm : Format) (image : List ℕ) → Bytes image → Passing fm (length image) (layout fm image) → IsImage fm image (readBy (layout fm image) image)
+is-image format.Extended image small p = extended-image image small p
+is-image format.Standard image small p = standard-image image small p
 
 pub judged-is-image : JudgedIsImage
 unfolding JudgedIsImage judge
 judged-is-image fm image small judged e =
     let p = passed (checks fm (length image) (layout fm image)) (readBy (layout fm image) image) judged e in
-    subst (IsImage fm image) (p .1) (is-image fm image small (p .0))
+    subst (IsImage fm image) (p .1) (is-image fm image small (passing fm (length image) (layout fm image) (p .0)))
 
 pub each-code-is-judged : EachCodeIsJudged
 unfolding EachCodeIsJudged CodesAlike ImageIsJudged imageOf

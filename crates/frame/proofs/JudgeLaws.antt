@@ -1,4 +1,4 @@
--- The checks of an image, one after the other, for the code that makes them.
+-- The checks of an image: by name, where all hold, and one after the other, for the code that makes them.
 use Prim.Native.Nat.{ℕ, _+_, _-_, _≤_, _<_}
 use mathlib.Core.Path.{_≡_, sym, ap, _∙_}
 use mathlib.Core.Bool.{Bool, true, false, not}
@@ -6,16 +6,46 @@ use mathlib.Core.List.{List, [], _∷_}
 use native.Mathlib.Omega.{arith}
 use lib.Dec.{leb, eqb}
 use lib.ListN.{length}
-use borrow.Author.Tests.{le-leb, lt-leb, eq-eqb, ne-eqb, not-true, not-false}
+use borrow.Author.Tests.{leb-true, eqb-true, le-leb, lt-leb, not-true, not-false}
 use Rattle.format.specs.declared.Format.{Format}
-use Rattle.format.specs.declared.Refusal.the-variants.{Length, Form, Remote, Count, Piece}
+use Rattle.format.specs.declared.Refusal.the-variants.{Length, Form, Remote, Count, Surplus, Piece}
 use Rattle.format.specs.Tests.{allTrue}
 use Rattle.format.specs.Formats.{headerSize}
-use Rattle.format.specs.Refusals.{Result, value, refused, guarded}
-use Rattle.format.proofs.Checks.{stop, pass, none-left}
+use Rattle.format.specs.Refusals.{Result, value, refused, check, guarded}
+use Rattle.format.proofs.Tests.{each}
+use Rattle.format.proofs.Checks.{stop, pass, none-left, Passed}
 use Rattle.frame.specs.declared.Layout.{Layout}
 use Rattle.frame.specs.Layout.{layout}
 use Rattle.frame.specs.Judge.{dataCount, pieceRule, checks, Judged, readBy, judge}
+
+-- ---- all hold
+
+pub record Passing (format : Format) (size : ℕ) (said : Layout) : Type 0 where
+  -- LENGTH, FORM, REMOTE
+  pub least : headerSize format ≤ size
+  pub most : size ≤ headerSize format + 8
+  pub formed : said .fixed ≡ true
+  pub data-frame : said .rtr ≡ 0
+  -- COUNT and SURPLUS; PIECE
+  pub counted : size ≡ headerSize format + dataCount (said .code)
+  pub rule : pieceRule format (said .flag) (dataCount (said .code)) (said .number) ≡ true
+
+pub passing : (format : Format) (size : ℕ) (said : Layout) → Passed (checks format size said) → Passing format size said
+unfolding checks
+passing format size said p =
+    let sized = each _ (p .0) in
+    let enough = leb-true (headerSize format + dataCount (said .code)) size (p .1 .1 .1 .0) in
+    let few = leb-true size (headerSize format + dataCount (said .code)) (p .1 .1 .1 .1 .0) in
+    record {
+      least = leb-true _ _ (sized .0);
+      most = leb-true _ _ (sized .1 .0);
+      formed = p .1 .0;
+      data-frame = eqb-true _ _ (p .1 .1 .0);
+      counted = omega arith;
+      rule = p .1 .1 .1 .1 .1 .0;
+    }
+
+-- ---- one after the other
 
 both : (a b : Bool) → a ≡ true → b ≡ true → allTrue (a ∷ b ∷ []) ≡ true
 unfolding allTrue
@@ -76,27 +106,41 @@ module _ (format : Format) (image : List ℕ) (said : Layout) (e : said ≡ layo
 
         -- the count that `judge` has read from the count code, and the same as a length
         module _ (count : ℕ) (ec : count ≡ dataCount (said .code)) (wide : ℕ) (ew : wide ≡ count) where
-          pub other-count : (length image - header ≡ wide → ⊥) → refused 4 ≡ judge format image
+          pub fewer : length image - header < wide → refused 4 ≡ judge format image
           unfolding checks
-          other-count n =
-              let m : length image ≡ headerSize format + count → ⊥ = λ q. n (omega arith) in
-              judged (pass Length _ _ sized (pass Form _ _ f (pass Remote _ _ r (stop Count _ _ (rw (← ec) (ne-eqb _ _ m))))))
+          fewer n =
+              let m : length image < headerSize format + count = omega arith in
+              judged (pass Length _ _ sized (pass Form _ _ f (pass Remote _ _ r (stop Count _ _ (rw (← ec) (lt-leb _ _ m))))))
 
-          module _ (n : length image - header ≡ wide) (rule : Bool) (er : rule ≡ pieceRule format (said .flag) count (said .number)) where
-            counted : eqb (length image) (headerSize format + dataCount (said .code)) ≡ true
-            counted = let m : length image ≡ headerSize format + count = omega arith in rw (← ec) (eq-eqb _ _ m)
+          module _ (enough : wide ≤ length image - header) where
+            not-fewer : leb (headerSize format + dataCount (said .code)) (length image) ≡ true
+            not-fewer = let m : headerSize format + count ≤ length image = omega arith in rw (← ec) (le-leb _ _ m)
 
-            pub by-rule : ByRule format image said rule
+            pub more : wide < length image - header → refused 25 ≡ judge format image
             unfolding checks
-            by-rule =
-                record {
-                  broken = λ p.
-                      judged
-                      (pass Length _ _ sized
-                      (pass Form _ _ f (pass Remote _ _ r (pass Count _ _ counted (stop Piece _ _ (rw (← ec) (sym er ∙ not-true rule p)))))));
-                  kept = λ p.
-                      judged
-                      (pass Length _ _ sized
-                      (pass Form _ _ f
-                      (pass Remote _ _ r (pass Count _ _ counted (pass Piece _ _ (rw (← ec) (sym er ∙ not-false rule p)) (none-left _))))));
-                }
+            more n =
+                let m : headerSize format + count < length image = omega arith in
+                judged
+                (pass Length _ _ sized
+                (pass Form _ _ f (pass Remote _ _ r (pass Count _ _ not-fewer (stop Surplus _ _ (rw (← ec) (lt-leb _ _ m)))))))
+
+            module _ (n : length image - header ≤ wide) (rule : Bool) (er : rule ≡ pieceRule format (said .flag) count (said .number)) where
+              not-more : leb (length image) (headerSize format + dataCount (said .code)) ≡ true
+              not-more = let m : length image ≤ headerSize format + count = omega arith in rw (← ec) (le-leb _ _ m)
+
+              -- every check but the last
+              to-the-rule : {r : Result Judged}
+                  → r ≡ guarded (check Piece (pieceRule format (said .flag) (dataCount (said .code)) (said .number)) ∷ []) (readBy said image)
+                  → r ≡ judge format image
+              unfolding checks
+              to-the-rule h =
+                  judged
+                  (pass Length _ _ sized
+                  (pass Form _ _ f (pass Remote _ _ r (pass Count _ _ not-fewer (pass Surplus _ _ not-more h)))))
+
+              pub by-rule : ByRule format image said rule
+              by-rule =
+                  record {
+                    broken = λ p. to-the-rule (stop Piece _ _ (rw (← ec) (sym er ∙ not-true rule p)));
+                    kept = λ p. to-the-rule (pass Piece _ _ (rw (← ec) (sym er ∙ not-false rule p)) (none-left _));
+                  }

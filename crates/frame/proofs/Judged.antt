@@ -1,17 +1,18 @@
 -- What an image has that is judged sound, and which refusals judging gives: by name, for proofs of other crates.
 use Prim.Native.Nat.{ℕ, _+_, _-_, _≤_, _<_}
 use mathlib.Core.Path.{_≡_, refl}
+use mathlib.Core.Logic.{_≢_}
 use mathlib.Core.Bool.{true}
 use mathlib.Core.List.{List}
 use native.Mathlib.Omega.{arith}
 use lib.ListN.{length, drop, length-drop}
-use borrow.Author.Tests.{eqb-true, ltb-true}
+use borrow.Author.Tests.{ltb-true}
 use Rattle.format.specs.declared.Format.{Format}
 use Rattle.format.specs.declared.Format.the-variants.{Extended, Standard}
 use Rattle.format.specs.declared.Flag.{Flag}
 use Rattle.format.specs.declared.Flag.the-variants.{Middle, Start, End, Single}
 use Rattle.format.specs.declared.Refusal.{Refusal}
-use Rattle.format.specs.declared.Refusal.the-variants.{Length, Form, Remote, Count, Piece}
+use Rattle.format.specs.declared.Refusal.the-variants.{Length, Form, Remote, Count, Surplus, Piece, Orphan, Step, Long}
 use Rattle.format.specs.Formats.{headerSize, numberRange, packetStart, formatOf, inRange}
 use Rattle.format.specs.Refusals.{Result, value, refused, number}
 use Rattle.format.proofs.Tests.{each, tests}
@@ -20,6 +21,7 @@ use Rattle.frame.specs.Layout.{layout}
 use Rattle.frame.specs.Judge.{Judged, dataCount, pieceRule, checks, readBy, judge}
 use Rattle.frame.specs.Image.{soundFrame}
 use Rattle.frame.specs.Claims.{Bytes, JudgedIsImage}
+use Rattle.frame.proofs.JudgeLaws.{passing}
 use Rattle.frame.proofs.Images.{rule-count, judged-is-image}
 
 -- ---- an image that is judged sound
@@ -62,26 +64,24 @@ start-within Standard End count n r = let u = each _ r in (omega tests, omega te
 
 module _ (format : Format) (image : List ℕ) where
   of-layout : (judged : Judged) → judge format image ≡ value judged → SoundImage format image (readBy (layout format image) image)
-  unfolding judge checks
+  unfolding judge
   of-layout judged e =
       let said = layout format image in
-      let p = passed (checks format (length image) said) (readBy said image) judged e .0 in
-      let size = eqb-true _ _ (p .1 .1 .1 .0) in
-      let rule = p .1 .1 .1 .1 .0 in
+      let p = passing format (length image) said (passed (checks format (length image) said) (readBy said image) judged e .0) in
       let s = start-of format image in
-      let w = start-within format (said .flag) (dataCount (said .code)) (said .number) rule in
+      let w = start-within format (said .flag) (dataCount (said .code)) (said .number) (p .rule) in
       record {
         by-layout = refl;
-        formed = p .1 .0;
-        data-frame = eqb-true _ _ (p .1 .1 .0);
-        few = rule-count format (said .flag) (dataCount (said .code)) (said .number) rule;
-        size = size;
-        rule = rule;
+        formed = p .formed;
+        data-frame = p .data-frame;
+        few = rule-count format (said .flag) (dataCount (said .code)) (said .number) (p .rule);
+        size = p .counted;
+        rule = p .rule;
         start-is = s;
-        starts = rw (s, size) (w .0);
+        starts = rw (s, p .counted) (w .0);
         carries = refl;
         carried = length-drop (said .start) image;
-        most = rw (s, size) (w .1);
+        most = rw (s, p .counted) (w .1);
       }
 
   pub sound-image : (judged : Judged) → judge format image ≡ value judged → SoundImage format image judged
@@ -106,23 +106,28 @@ frame-in-range format image bytes judged e =
 
 -- ---- an image that is refused
 
--- n is one of the numbers of LENGTH, FORM, REMOTE, COUNT and PIECE
+-- n is one of the numbers of LENGTH, FORM, REMOTE, COUNT, SURPLUS and PIECE, so none of a stream's refusals
 pub record JudgingRefusal (n : ℕ) : Type 0 where
   pub name : Refusal
   pub is : n ≡ number name
-  pub least : 1 ≤ n
-  pub last : n ≤ 5
+  pub not-orphan : n ≢ number Orphan
+  pub not-step : n ≢ number Step
+  pub not-long : n ≢ number Long
 
 -- one of the names, by its number
-named : (name : Refusal) → (1 ≤ number name) × (number name ≤ 5) → JudgingRefusal (number name)
-named name h = record { name = name; is = refl; least = h .0; last = h .1 }
+named : (name : Refusal) → (number name ≢ number Orphan) × ((number name ≢ number Step) × (number name ≢ number Long))
+    → JudgingRefusal (number name)
+named name h = record { name = name; is = refl; not-orphan = h .0; not-step = h .1 .0; not-long = h .1 .1 }
 
 pub judging-refusal : (format : Format) (image : List ℕ) (n : ℕ) → judge format image ≡ refused n → JudgingRefusal n
 unfolding judge checks
 judging-refusal format image n e =
     refused-by JudgingRefusal (checks format (length image) (layout format image)) (
       named Length (omega arith),
-      (named Form (omega arith), (named Remote (omega arith), (named Count (omega arith), (named Piece (omega arith), tt)))),
+      (
+        named Form (omega arith),
+        (named Remote (omega arith), (named Count (omega arith), (named Surplus (omega arith), (named Piece (omega arith), tt)))),
+      ),
     )
     _ n e
 

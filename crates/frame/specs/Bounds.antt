@@ -1,6 +1,6 @@
 -- Document 01, "Frame images" and the piece rules: every end of every range, from both sides, the order of refusals 1 to 5, and what
--- stands where; and document 02, L3: what each count code says. The figures are literals, so that one changed alike in a definition and in
--- the code breaks the claim. proofs/Bounds.antt proves it.
+-- stands where; and document 02, L3: what each count code says, and L4: COUNT for an image too short, SURPLUS for one too long. The figures
+-- are literals, so that one changed alike in a definition and in the code breaks the claim. proofs/Bounds.antt proves it.
 use Prim.Native.Nat.{ℕ, _+_}
 use mathlib.Core.Path.{_≡_}
 use mathlib.Core.Bool.{Bool, true, false}
@@ -90,9 +90,9 @@ imageTable =
     ∷ judges Extended (extended 0x80 0xC0 0x10 0) 0
     ∷ judges Extended (extended 0x88 0xC0 0x10 8) 0
     ∷ judges Extended (extended 0x89 0xC0 0x10 9) 1
-    -- length not header plus count: one less, one more; and just that
+    -- length not header plus count: one less, one more (L4: SURPLUS); and just that
     ∷ judges Extended (extended 0x81 0xC0 0x10 0) 4
-    ∷ judges Extended (extended 0x87 0xC0 0x10 8) 4
+    ∷ judges Extended (extended 0x87 0xC0 0x10 8) 25
     ∷ judges Extended (extended 0x87 0xC0 0x10 7) 0
     -- each fixed bit
     ∷ judges Extended (extended 0x01 0xC0 0x10 1) 2
@@ -122,7 +122,7 @@ imageTable =
     ∷ judges Standard (standard 0xE8 7 7) 0
     ∷ judges Standard (standard 0xE9 7 8) 1
     ∷ judges Standard (0x96 ∷ 0xE1 ∷ []) 4
-    ∷ judges Standard (standard 0xE7 7 7) 4
+    ∷ judges Standard (standard 0xE7 7 7) 25
     ∷ judges Standard (standard 0xE7 7 6) 0
     ∷ judges Standard (standard 0xF1 7 0) 3
     ∷ judges Standard (standard 0xA8 0 7) 0
@@ -135,6 +135,55 @@ imageTable =
     ∷ judges Standard (standard 0xF9 7 8) 1
     ∷ judges Standard (standard 0xF2 7 0) 3
     ∷ judges Standard (standard 0xC2 1 0) 4
+    ∷ []
+
+-- a single by its count code and the number of its data bytes
+abbrev pub coded : Format → (code size : ℕ) → List ℕ
+coded Extended code size = extended (0x80 + code) 0xC0 0x10 size
+coded Standard code size = 0x96 ∷ (0xE0 + code) ∷ replicate size 7
+
+-- document 02, L4, in either format: an image one byte short for its count, exact, and one byte long
+abbrev pub lengthRows : Format → List Bound
+lengthRows format =
+    -- count 0: one byte short has no whole header, LENGTH above
+    judges format (coded format 0 0) 0
+    ∷ judges format (coded format 0 1) 25
+    ∷ judges format (coded format 1 0) 4
+    ∷ judges format (coded format 1 1) 0
+    ∷ judges format (coded format 1 2) 25
+    ∷ judges format (coded format 7 6) 4
+    ∷ judges format (coded format 7 7) 0
+    ∷ judges format (coded format 7 8) 25
+    -- count 8, and codes 9 and 15, which say 8: one byte long is LENGTH
+    ∷ judges format (coded format 8 7) 4
+    ∷ judges format (coded format 8 8) 0
+    ∷ judges format (coded format 8 9) 1
+    ∷ judges format (coded format 9 7) 4
+    ∷ judges format (coded format 9 8) 0
+    ∷ judges format (coded format 9 9) 1
+    ∷ judges format (coded format 15 7) 4
+    ∷ judges format (coded format 15 8) 0
+    ∷ judges format (coded format 15 9) 1
+    -- eight bytes short, and eight long
+    ∷ judges format (coded format 8 0) 4
+    ∷ judges format (coded format 15 0) 4
+    ∷ judges format (coded format 0 8) 25
+    ∷ []
+
+-- "at the same place in the order": two refusals apply. FORM before SURPLUS, REMOTE before SURPLUS, SURPLUS before PIECE
+abbrev pub lengthOrder : List Bound
+lengthOrder =
+    judges Extended (extended 0x91 0xC0 0x10 2) 2
+    ∷ judges Extended (extended 0x81 0xC0 0x11 2) 2
+    ∷ judges Extended (extended 0xC1 0xC0 0x10 2) 3
+    ∷ judges Extended (extended 0x81 0xC1 0x10 2) 25
+    ∷ judges Extended (extended 0x87 0x40 0x10 8) 25
+    ∷ judges Extended (extended 0x87 0x3F 0x10 8) 25
+    ∷ judges Extended (extended 0x80 0xBF 0x10 1) 25
+    ∷ judges Standard (standard 0xF1 7 1) 3
+    ∷ judges Standard (standard 0xA7 0 7) 25
+    ∷ judges Standard (standard 0x87 1 7) 25
+    ∷ judges Standard (standard 0xC1 2 1) 25
     ∷ []
 
 -- each row with each of the count codes 8 to 15
@@ -208,5 +257,8 @@ Holds (rules format flag count number ok) = pieceRule format flag count number �
 Holds (judges format image n) = refusalOf (judge format image) ≡ n
 Holds (reads format image judged) = judge format image ≡ value judged
 
+abbrev pub table : List Bound
+table = pieceTable ++ (imageTable ++ (lengthRows Extended ++ (lengthRows Standard ++ (lengthOrder ++ (codeTable ++ layoutTable)))))
+
 unfoldable pub JudgingBounds : Type 0
-JudgingBounds = AllHold Holds (pieceTable ++ (imageTable ++ (codeTable ++ layoutTable)))
+JudgingBounds = AllHold Holds table

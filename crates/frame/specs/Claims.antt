@@ -7,10 +7,11 @@ use mathlib.Core.Bool.{true}
 use mathlib.Core.List.{List}
 use lib.ListN.{length, getD, drop}
 use Rattle.format.specs.declared.Format.{Format}
-use Rattle.format.specs.declared.Refusal.the-variants.{Count}
+use Rattle.format.specs.declared.Refusal.the-variants.{Count, Surplus}
 use Rattle.format.specs.Formats.{headerSize, formatOf, packetStart}
 use Rattle.format.specs.Refusals.{value, refused, number}
 use Rattle.frame.specs.declared.Verdict.{Verdict}
+use Rattle.frame.specs.Layout.{layout}
 use Rattle.frame.specs.Judge.{dataCount, Frame, Judged, judge, meaning}
 use Rattle.frame.specs.Image.{dataOf, imageWith, imageOf, countCode, withCode, soundFrame}
 
@@ -55,11 +56,26 @@ CountSent =
     (frame : Frame) → soundFrame frame ≡ true
     → (countCode (formatOf (frame .fields)) (imageOf frame) ≡ length (dataOf frame)) × (length (dataOf frame) ≤ 8)
 
--- "4 is now only a length that disagrees"
-unfoldable pub CountIsLength : Type 0
-CountIsLength =
-    (format : Format) (image : List ℕ) → judge format image ≡ refused (number Count)
-    → length image ≢ headerSize format + dataCount (countCode format image)
+-- ---- which way a length is wrong: document 02, L4
+
+-- an image that passes 1 to 3: its length is within its format's range, its fixed bits are right, and RTR is 0
+pub record PassesThree (format : Format) (image : List ℕ) : Type 0 where
+  pub least : headerSize format ≤ length image
+  pub most : length image ≤ headerSize format + 8
+  pub formed : layout format image .fixed ≡ true
+  pub data-frame : layout format image .rtr ≡ 0
+
+-- an image is refused with n exactly if it passes 1 to 3 and that holds of it
+pub record Exactly (format : Format) (image : List ℕ) (n : ℕ) (That : Type 0) : Type 0 where
+  pub only : judge format image ≡ refused n → PassesThree format image × That
+  pub always : PassesThree format image → That → judge format image ≡ refused n
+
+-- "4 COUNT becomes the image that is too short for its count; 25 SURPLUS the one too long": fewer bytes than header and count, or more
+pub record WhichWay : Type 0 where
+  pub short : (format : Format) (image : List ℕ)
+      → Exactly format image (number Count) (length image < headerSize format + dataCount (countCode format image))
+  pub long : (format : Format) (image : List ℕ)
+      → Exactly format image (number Surplus) (headerSize format + dataCount (countCode format image) < length image)
 
 -- ---- images and frames
 

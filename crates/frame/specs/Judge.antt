@@ -1,4 +1,5 @@
--- Document 01, "Frame images", the piece rules, and "Refusal numbers" 1 to 5 in their order: what an image is judged to be.
+-- Document 01, "Frame images", the piece rules, and "Refusal numbers" 1 to 5 in their order, with 25 of document 02, L4: what an image is
+-- judged to be.
 use Prim.Native.Nat.{ℕ, _+_}
 use mathlib.Core.Bool.{Bool, not, _||_, cond}
 use mathlib.Core.List.{List, [], _∷_}
@@ -9,7 +10,7 @@ use Rattle.format.specs.declared.Format.the-variants.{Extended, Standard}
 use Rattle.format.specs.declared.Fields.{Fields}
 use Rattle.format.specs.declared.Flag.{Flag}
 use Rattle.format.specs.declared.Flag.the-variants.{Middle, Start, End, Single}
-use Rattle.format.specs.declared.Refusal.the-variants.{Length, Form, Remote, Count, Piece}
+use Rattle.format.specs.declared.Refusal.the-variants.{Length, Form, Remote, Count, Surplus, Piece}
 use Rattle.format.specs.Tests.{allTrue}
 use Rattle.format.specs.Formats.{headerSize}
 use Rattle.format.specs.Refusals.{Result, value, refused, Check, check, guarded, number}
@@ -44,14 +45,16 @@ pieceRule Standard End count number =
     allTrue (leb 1 number ∷ leb number 255 ∷ leb 2 count ∷ leb count 8 ∷ (not (eqb number 1) || leb 3 count) ∷ [])
 
 -- LENGTH: image length outside its format's range, 5 to 13 or 2 to 10. FORM: extended fixed bits wrong. REMOTE: RTR is 1.
--- COUNT: image length not header plus count (L3: no longer a count over 8). PIECE: a piece rule broken.
+-- Document 02, L4, which overrules document 01 here: "4 COUNT becomes the image that is too short for its count; 25 SURPLUS the one too
+-- long, at the same place in the order." The count is as L3 has it read. PIECE: a piece rule broken.
 unfoldable pub checks : Format → ℕ → Layout → List Check
 checks format size said =
     let count : ℕ = dataCount (said .code) in
     check Length (allTrue (leb (headerSize format) size ∷ leb size (headerSize format + 8) ∷ []))
     ∷ check Form (said .fixed)
     ∷ check Remote (eqb (said .rtr) 0)
-    ∷ check Count (eqb size (headerSize format + count))
+    ∷ check Count (leb (headerSize format + count) size)
+    ∷ check Surplus (leb size (headerSize format + count))
     ∷ check Piece (pieceRule format (said .flag) count (said .number))
     ∷ []
 

@@ -11,7 +11,7 @@ ghost use Rattle.format.specs.Formats.{headerSize};
 ghost use Rattle.frame.specs.Layout.{flagOf, layout};
 ghost use Rattle.frame.specs.Judge.{dataCount, pieceRule, judge, meaning};
 ghost use Rattle.frame.specs.Claims.{ImageIsJudged, JudgedIsImage, OneImage, OneVerdict};
-ghost use Rattle.frame.specs.Claims.{CodesAlike, EachCodeIsJudged, CountSent, CountIsLength};
+ghost use Rattle.frame.specs.Claims.{CodesAlike, EachCodeIsJudged, CountSent, WhichWay};
 ghost use Rattle.frame.specs.Bounds.{JudgingBounds};
 
 // What stands in the bits of an image, right or wrong; `code` in those of the count.
@@ -181,7 +181,7 @@ fn piece_rule(format: Format, flag: Flag, count: u8, number: u8) -> bool
 }
 
 // Judges an image of any bytes and any length: the frame that it is, or the first refusal of 1 to
-// 5 that applies.
+// 4, 25 and 5 that applies.
 pub fn judge(format: Format, image: &[u8]) -> Verdict
     ensures { λ r. ⌜ meaning r (now (image .entry)) ≡ judge format (now (image .entry)) ⌝ }
 {
@@ -205,8 +205,12 @@ pub fn judge(format: Format, image: &[u8]) -> Verdict
     }
     let code = l.code;
     let count = data_count(code);
-    if n - header != wide(count) {
+    let said = wide(count);
+    if n - header < said {
         return Verdict::Refused(Refusal::Count);
+    }
+    if n - header > said {
+        return Verdict::Refused(Refusal::Surplus);
     }
     let flag = l.flag;
     if !piece_rule(format, flag, count, l.number) {
@@ -228,7 +232,7 @@ pub fn promised()
     ensures codes_alike { λ _. ⌜ CodesAlike ⌝ }
     ensures each_code_is_judged { λ _. ⌜ EachCodeIsJudged ⌝ }
     ensures count_sent { λ _. ⌜ CountSent ⌝ }
-    ensures count_is_length { λ _. ⌜ CountIsLength ⌝ }
+    ensures which_way { λ _. ⌜ WhichWay ⌝ }
     ensures judged_is_image { λ _. ⌜ JudgedIsImage ⌝ }
     ensures one_image { λ _. ⌜ OneImage ⌝ }
     ensures one_verdict { λ _. ⌜ OneVerdict ⌝ }

@@ -72,7 +72,7 @@ module _ (bus : ℕ) (b : bus ≤ 1) (head : Head) (image : List ℕ) (h : Heads
 -- ---- what is heard
 
 module _ (slots : List Slot) (store : List ℕ) (bus : ℕ) (image : List ℕ) (s : sound Extended slots ≡ true) (w : length store ≡ 32768) (b : bus ≤ 1) where
-  -- an image refused by 1 to 5
+  -- an image refused by 1 to 5 or 25
   pub at-refused : (own : Refusal) → refused (number own) ≡ judge Extended image
       → heard (extendedStation slots) store bus image ≡ unchanged (extendedStation slots) store (refused (number own))
   unfolding heard receive checkedThen

@@ -34,7 +34,8 @@ extendedStation slots = record { format = Extended; slots = slots }
 
 -- ---- one record
 
--- the station with the key of the frame open: opened if it is new and a slot is closed; an image refused by 1 to 5 opens nothing
+-- the station with the key of the frame open: opened if it is new and a slot is closed; an image refused by 1 to 5 or 25 opens
+-- nothing
 abbrev pub openedFor : Station → (bus : ℕ) → Result Judged → Station
 openedFor station bus (refused n) = station
 openedFor station bus (value judged) = opening station (keyOf bus (judged .frame)) .station

@@ -238,7 +238,7 @@ judge-within : (format : Format) (image : List ℕ) → Within (λ j. Carrying f
 judge-within format image =
     by-judging (Within (λ (j : Judged). Carrying format (j .frame))) format image
     (judged-carries format image)
-    (λ n r. omega (arith, r .least, r .last))
+    (λ n r. rw (r .is) (a-refusal (r .name)))
 
 receive-small : (station : Station) (store : List ℕ) (bus : ℕ) (image : List ℕ) → Receives (receive station store bus image)
 unfolding receive

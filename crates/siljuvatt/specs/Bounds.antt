@@ -47,6 +47,7 @@ table =
     ∷ replies (value (kept true)) 0x01050000
     ∷ replies (value filtered) 0x00060000
     ∷ replies (refused 8) 0x80000008
+    ∷ replies (refused 25) 0x80000019
     -- kinds 7, 8 and 9
     ∷ tells (value (send 0)) 0x00070000
     ∷ tells (value (send 1)) 0x00070001

@@ -17,7 +17,7 @@ use Rattle.format.specs.Refusals.{Result, value, refused, number, check, guarde
 use Rattle.format.proofs.Checks.{passed-then}
 use Rattle.format.proofs.Tests.{each}
 use Rattle.frame.specs.Judge.{Frame, Judged, judge}
-use Rattle.frame.proofs.Judged.{judging-refusal}
+use Rattle.frame.proofs.Judged.{JudgingRefusal, judging-refusal}
 use Rattle.stream.specs.declared.Progress.{Progress}
 use Rattle.stream.specs.declared.Progress.the-variants.{Idle, Collecting, Done}
 use Rattle.stream.specs.Answers.{Reply, filtered}
@@ -129,16 +129,14 @@ let-in-refused station store bus image n e = go (soundStation station) (fullSize
     other : (k : ℕ) → k ≡ n → drops k ≡ false → drops n ≡ false
     other k q d = subst (λ (m : ℕ). drops m ≡ false) q d
 
-    small : n ≤ 5 → drops n ≡ false
-    small l =
-        ap (λ (b : Bool). b || eqb n (number Long)) (ne-eqb n (number Step) (λ q. omega (arith, q, l)))
-        ∙ ne-eqb n (number Long) (λ q. omega (arith, q, l))
+    judged : JudgingRefusal n → drops n ≡ false
+    judged r = ap (λ (b : Bool). b || eqb n (number Long)) (ne-eqb n (number Step) (r .not-step)) ∙ ne-eqb n (number Long) (r .not-long)
 
     go : (s w b : Bool) → cond s (cond w (cond b (judge (station .format) image) (refused 9)) (refused 13)) (refused 21) ≡ refused n → drops n ≡ false
     go false w b e = other 21 (cc) refl
     go true false b e = other 13 (cc) refl
     go true true false e = other 9 (cc) refl
-    go true true true e = small (judging-refusal (station .format) image n e .last)
+    go true true true e = judged (judging-refusal (station .format) image n e)
 
 module _ (station : Station) (store : List ℕ) (sixteen : length (station .slots) ≡ 16) (key : Key) (frame : Frame) where
   at-deliver : Kept station store (place (hasKey key) (station .slots)) (deliver station store key frame)

@@ -131,7 +131,7 @@ unfolding checkedThen
 examined-under format bus image n e = go (leb bus 1) e
   where
     go : (b : Bool) → cond b (judge format image) (refused (number refusal.Field)) ≡ refused n → n ≢ 8
-    go true e = λ q. omega (arith, q, judging-refusal format image n e .last)
+    go true e = judging-refusal format image n e .not-long
     go false e = let z : _≡_ {A = ℕ} 9 n = cc in λ q. omega (arith, q, z)
 
 NotLong : After → Type 0

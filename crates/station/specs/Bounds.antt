@@ -1,6 +1,7 @@
 -- Document 01, "Refusal numbers", the order of the refusals at a station: "21, 13, 9, then for images 1 to 8; [..] for opening 14, 15; for
--- closing 16; for reading 16, 17"; and each end of each range, from both sides: sixteen slots, two buses, 32,768 bytes. The figures are
--- literals, so that an order or a bound changed alike in a definition and in the code breaks the claim. proofs/Bounds.antt proves it.
+-- closing 16; for reading 16, 17", with 25 as document 02, L4, has it; and each end of each range, from both sides: sixteen slots, two
+-- buses, 32,768 bytes. The figures are literals, so that an order or a bound changed alike in a definition and in the code breaks the
+-- claim. proofs/Bounds.antt proves it.
 use Prim.Native.Nat.{ℕ}
 use mathlib.Core.Path.{_≡_}
 use mathlib.Core.Bool.{false}
@@ -39,6 +40,13 @@ single = 0x81 ∷ 0x45 ∷ 0x86 ∷ 0xC0 ∷ 0x10 ∷ 7 ∷ []
 
 abbrev broken : List ℕ
 broken = 0x81 ∷ 0x45 ∷ 0x86 ∷ 0xC1 ∷ 0x10 ∷ 7 ∷ []
+
+-- the single with a byte more, and with one less
+abbrev longer : List ℕ
+longer = 0x81 ∷ 0x45 ∷ 0x86 ∷ 0xC0 ∷ 0x10 ∷ 7 ∷ 8 ∷ []
+
+abbrev shorter : List ℕ
+shorter = 0x81 ∷ 0x45 ∷ 0x86 ∷ 0xC0 ∷ 0x10 ∷ []
 
 -- a middle of number 1
 abbrev middle : List ℕ
@@ -82,6 +90,14 @@ table =
     ∷ receives Extended none 32768 2 broken (refused 9) 16
     ∷ receives Extended none 32768 1 broken (refused 5) 16
     ∷ receives Extended (third Idle) 32768 1 broken (refused 5) 16
+    -- 25 comes where 4 does, and concerns no slot, as 4 does
+    ∷ receives Extended unsound 32767 2 longer (refused 21) 16
+    ∷ receives Extended none 32767 2 longer (refused 13) 16
+    ∷ receives Extended none 32768 2 longer (refused 9) 16
+    ∷ receives Extended (third Idle) 32768 1 longer (refused 25) 16
+    ∷ receives Extended (third Idle) 32768 1 shorter (refused 4) 16
+    ∷ receives Extended (third (Collecting 8)) 32768 1 longer (refused 25) 16
+    ∷ receives Extended full 32768 1 longer (refused 25) 16
     ∷ receives Extended none 32768 1 single (value filtered) 16
     ∷ receives Extended none 32768 1 middle (value filtered) 16
     ∷ receives Extended (third Idle) 32768 1 single (value (packet 1 false)) 2

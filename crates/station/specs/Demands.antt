@@ -1,7 +1,7 @@
 -- What is promised of a station and of whole runs. Open this file first; the definitions that it speaks of are those that the calls'
 -- contracts cite. In which order to read, from the bottom:
 --   format  Formats (limits, fields), Refusals (numbers, what an order of refusals means)
---   frame   Layout (what stands where), Judge (piece rules, refusals 1 to 5), Image (the image of a frame)
+--   frame   Layout (what stands where), Judge (piece rules, refusals 1 to 5 and 25), Image (the image of a frame)
 --   packet  Split (the pieces of a packet)
 --   stream  Answers, Step (what a frame does to its stream), OneStream (the receiver of one stream)
 --   slot    Slots (keys, where a key is open), Sound

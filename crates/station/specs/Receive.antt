@@ -65,7 +65,7 @@ abbrev pub judgedAs : Station → List ℕ → (bus : ℕ) → Result Judged →
 judgedAs station store bus (refused n) = unchanged station store (refused n)
 judgedAs station store bus (value judged) = deliver station store (keyOf bus (judged .frame)) (judged .frame)
 
--- FIELD: a bus handed in is out of range. Then the image is judged: LENGTH, FORM, REMOTE, COUNT, PIECE
+-- FIELD: a bus handed in is out of range. Then the image is judged: LENGTH, FORM, REMOTE, COUNT, SURPLUS, PIECE
 abbrev pub examined : Format → (bus : ℕ) → List ℕ → Result Judged
 examined format bus image = checkedThen (check Field (leb bus 1) ∷ []) (judge format image)
 
@@ -78,7 +78,7 @@ unfoldable pub receive : Station → List ℕ → (bus : ℕ) → List ℕ → A
 receive station store bus image = judgedAs station store bus (letIn station store bus image)
 
 -- the slot that a call concerns: the one that is open with the frame's key, also where that stream answers ORPHAN, STEP or LONG; 16,
--- which is none of sixteen, where the call is refused by 21, 13, 9 or 1 to 5, or no slot is open with the key
+-- which is none of sixteen, where the call is refused by 21, 13, 9, 1 to 5 or 25, or no slot is open with the key
 abbrev pub concernedBy : List Slot → (bus : ℕ) → Result Judged → ℕ
 concernedBy slots bus (refused n) = 16
 concernedBy slots bus (value judged) = place (hasKey (keyOf bus (judged .frame))) slots

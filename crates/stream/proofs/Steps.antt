@@ -10,7 +10,7 @@ use Rattle.copying.specs.Copy.{written}
 use Rattle.format.specs.declared.Format.{Format}
 use Rattle.format.specs.declared.Flag.{Flag}
 use Rattle.format.specs.declared.Flag.the-variants.{Middle, Start, End, Single}
-use Rattle.format.specs.declared.Refusal.the-variants.{Orphan, Step, Long, Store, Count}
+use Rattle.format.specs.declared.Refusal.the-variants.{Orphan, Step, Long, Store, Surplus}
 use Rattle.format.specs.Formats.{pieceSize, numberRange}
 use Rattle.format.specs.Refusals.{guarded}
 use Rattle.stream.specs.declared.Progress.{Progress}
@@ -88,7 +88,7 @@ module _ (format : Format) (progress : Progress) (area : List ℕ) (flag : Flag)
   unfolding offered guarded
   no-area r e h = rw (e, ne-eqb (length area) 2048 h)
 
-  pub too-many : (r : Stepped) → r ≡ record { answer = Refused Count; progress = progress } → length area ≡ 2048 → 8 < length bytes
+  pub too-many : (r : Stepped) → r ≡ record { answer = Refused Surplus; progress = progress } → length area ≡ 2048 → 8 < length bytes
       → nextOf r area ≡ offered format progress area flag n bytes
   unfolding offered guarded
   too-many r e h l = rw (e, eq-eqb (length area) 2048 h, lt-leb (length bytes) 8 l)

@@ -81,7 +81,7 @@ table =
     ∷ offers 2048 8 (value (packet 8 false))
     ∷ offers 2047 8 (refused 13)
     ∷ offers 2049 8 (refused 13)
-    ∷ offers 2048 9 (refused 4)
+    ∷ offers 2048 9 (refused 25)
     ∷ offers 2047 9 (refused 13)
     ∷ []
 

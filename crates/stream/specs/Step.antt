@@ -93,7 +93,7 @@ unfoldable pub step : Format → Progress → (area : List ℕ) → Frame → Ne
 step format progress area frame =
     stepped (pieceSize format) (numberRange format) progress area (frame .flag) (frame .number) (frame .bytes)
 
--- The public call is this step, over any lent bytes: STORE where the area is not 2,048 bytes, COUNT where there are over 8 packet
+-- The public call is this step, over any lent bytes: STORE where the area is not 2,048 bytes, SURPLUS where there are over 8 packet
 -- bytes, and then nothing changes. A receiving call never meets either: its store has been measured and its image judged. Nor does
 -- it hand on a progress that is not sound; such a one, of which document 01 says nothing here, steps as the lines above say.
 abbrev pub keptAs : Progress → List ℕ → Result Next → Next
@@ -103,7 +103,7 @@ keptAs progress area (refused n) = record { answer = refused n; progress = progr
 unfoldable pub offered : Format → Progress → (area : List ℕ) → Flag → (n : ℕ) (bytes : List ℕ) → Next
 offered format progress area flag n bytes =
     keptAs progress area
-    (guarded (check refusal.Store (eqb (length area) 2048) ∷ check refusal.Count (leb (length bytes) 8) ∷ [])
+    (guarded (check refusal.Store (eqb (length area) 2048) ∷ check refusal.Surplus (leb (length bytes) 8) ∷ [])
     (stepped (pieceSize format) (numberRange format) progress area flag n bytes))
 
 -- what the code hands back, and the area afterwards, say

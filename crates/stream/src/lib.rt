@@ -175,7 +175,7 @@ fn advance(
 
 // What a frame, by its flag, number and packet bytes, does to a stream: its answer and the progress
 // after it; its bytes are written to the area. Refuses an area of another size than Area::SIZE with
-// STORE, more than 8 bytes with COUNT, and then changes nothing.
+// STORE, more than 8 bytes with SURPLUS, and then changes nothing.
 pub fn step(
     format: Format,
     progress: Progress,
@@ -190,7 +190,7 @@ pub fn step(
         return refuse(Refusal::Store, progress);
     }
     if bytes.len() > 8 {
-        return refuse(Refusal::Count, progress);
+        return refuse(Refusal::Surplus, progress);
     }
     let z = format.piece_size();
     let m = format.number_range();

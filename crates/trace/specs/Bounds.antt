@@ -9,7 +9,7 @@ use lib.ListN.{replicate}
 use Rattle.format.specs.declared.Fields.{Fields}
 use Rattle.format.specs.declared.Fields.the-variants as fields
 use Rattle.format.specs.declared.Flag.the-variants.{Start, Middle, End, Single}
-use Rattle.format.specs.declared.Refusal.the-variants.{Remote, Orphan, State}
+use Rattle.format.specs.declared.Refusal.the-variants.{Remote, Count, Surplus, Orphan, State}
 use Rattle.format.specs.Refusals.{Result, value, refused}
 use Rattle.stream.specs.declared.Answer.the-variants as answer
 use Rattle.trace.specs.declared.Line.{Line}
@@ -101,6 +101,9 @@ lines =
     (ascii "18446744073709551615 B 3 63 3 63 3 63 31 8 packet 18446744073709551615 broke\n")
     -- the other lines
     ∷ row (line.Refused 9 0 Remote) (ascii "9 A refused 3\n")
+    -- document 02, L4
+    ∷ row (line.Refused 9 0 Count) (ascii "9 A refused 4\n")
+    ∷ row (line.Refused 9 0 Surplus) (ascii "9 A refused 25\n")
     ∷ row (line.Refused 18446744073709551615 1 State) (ascii "18446744073709551615 B refused 21\n")
     ∷ row (line.Stopped 100) (ascii "100 stopped\n")
     ∷ row (line.Stopped 18446744073709551615) (ascii "18446744073709551615 stopped\n")

@@ -1,6 +1,6 @@
 -- Document 01, the listing program: "It prints the header, one line a record, and the count. Fields are decimal, bus A or B; after the
 -- count field comes the answer: packet and length, kept, filtered, or refused and number; "broke" last. An image refused by 1 to 5 shows
--- record, bus and refusal only." Of a damaged record "it prints its number and "stopped"".
+-- record, bus and refusal only." Of a damaged record "it prints its number and "stopped"". Document 02, L4: "the listing treat[s] 25 as 4".
 use Prim.Native.Nat.{ℕ, zero, suc, _+_, _/_, _%_}
 use Prim.Native.Char.{code}
 use Prim.Native.String as text
@@ -68,7 +68,7 @@ columns (Extended priority source group destination function) flag n count =
     priority ∷ source ∷ group ∷ destination ∷ flag ∷ n ∷ function ∷ count ∷ []
 columns (Standard priority address side) flag n count = []
 
--- record r: a frame with its answer; an image refused by 1 to 5
+-- record r: a frame with its answer; an image refused by 1 to 5 or 25
 unfoldable pub frameLine : (r bus : ℕ) → Fields → Flag → (n count : ℕ) → Result Reply → List ℕ
 frameLine r bus id flag n count answer =
     withNewline (decimal r ++ (busName bus ++ (fieldsText (columns id (flagBits flag) n count) ++ answerText answer)))

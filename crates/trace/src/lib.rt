@@ -77,7 +77,7 @@ pub enum Line {
         count: u8,
         answer: Answer,
     },
-    // A record whose image is refused by 1 to 5.
+    // A record whose image is refused by 1 to 5 or 25.
     Refused {
         ordinal: u64,
         bus: u8,

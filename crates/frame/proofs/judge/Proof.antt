@@ -2,7 +2,7 @@
 use borrow.Author.Needs.{needs}
 use mathlib.Core.Path.{refl}
 use native.Mathlib.Omega.{arith}
-use Rattle.frame.proofs.JudgeLaws.{too-short, too-long, misformed, remote, other-count, ByRule, by-rule}
+use Rattle.frame.proofs.JudgeLaws.{too-short, too-long, misformed, remote, fewer, more, ByRule, by-rule}
 use Rattle.frame.proofs.judge.Statement.{statement}
 use Rattle.frame.proofs.judge.Tie as tie
 
@@ -60,33 +60,44 @@ returns-5 c =
     let c9 = c6 .before .before .before in
     let c11 = c9 .before .before in
     let a = c11 .args in
-    other-count (a .format) (a .image .now) _ (c6 .layout-of .ensures) _ (c9 .header-size .ensures) (omega arith)
-    (omega arith) (c4 .if3 .left) (c3 .if4 .left) _ (c1 .before .data-count .ensures) _ (c1 .wide .ensures) (λ q. omega arith)
+    fewer (a .format) (a .image .now) _ (c6 .layout-of .ensures) _ (c9 .header-size .ensures) (omega arith)
+    (omega arith) (c4 .if3 .left) (c3 .if4 .left) _ (c1 .before .data-count .ensures) _ (c1 .wide .ensures) (omega arith)
 
-piece-rule-requires : tie.Need-piece-rule-requires
-piece-rule-requires c κs = search needs
-
--- what is known after the piece rule
-ruled : (c : tie.After-piece-rule)
-    → let l = c .before .before .before .before .before .before .before in
-    let a = l .before .before .before .before .before .args in
-    ByRule (a .format) (a .image .now) (l .layout-of .result) (c .piece-rule .result)
-ruled c =
+returns-6 : tie.Need-returns-6
+returns-6 c =
     let c2 = c .before .before in
     let c4 = c2 .before .before in
     let c5 = c4 .before in
     let c7 = c5 .before .before in
     let c10 = c7 .before .before .before in
     let a = c10 .before .before .args in
-    by-rule (a .format) (a .image .now) _ (c7 .layout-of .ensures) _ (c10 .header-size .ensures) (omega arith) (omega arith)
-    (c5 .if3 .left) (c4 .if4 .left) _ (c2 .before .data-count .ensures) _ (c2 .wide .ensures) (omega arith) _
+    more (a .format) (a .image .now) _ (c7 .layout-of .ensures) _ (c10 .header-size .ensures) (omega arith) (omega arith)
+    (c5 .if3 .left) (c4 .if4 .left) _ (c2 .before .data-count .ensures) _ (c2 .wide .ensures) (omega arith) (omega arith)
+
+piece-rule-requires : tie.Need-piece-rule-requires
+piece-rule-requires c κs = search needs
+
+-- what is known after the piece rule
+ruled : (c : tie.After-piece-rule)
+    → let l = c .before .before .before .before .before .before .before .before in
+    let a = l .before .before .before .before .before .args in
+    ByRule (a .format) (a .image .now) (l .layout-of .result) (c .piece-rule .result)
+ruled c =
+    let c3 = c .before .before .before in
+    let c5 = c3 .before .before in
+    let c6 = c5 .before in
+    let c8 = c6 .before .before in
+    let c11 = c8 .before .before .before in
+    let a = c11 .before .before .args in
+    by-rule (a .format) (a .image .now) _ (c8 .layout-of .ensures) _ (c11 .header-size .ensures) (omega arith) (omega arith)
+    (c6 .if3 .left) (c5 .if4 .left) _ (c3 .before .data-count .ensures) _ (c3 .wide .ensures) (omega arith) (omega arith) _
     (c .piece-rule .ensures)
 
-returns-6 : tie.Need-returns-6
-returns-6 c = ruled (c .before) .broken (c .if6 .taken)
-
 returns-7 : tie.Need-returns-7
-returns-7 c = ruled (c .before) .kept (c .if6 .left)
+returns-7 c = ruled (c .before) .broken (c .if7 .taken)
+
+returns-8 : tie.Need-returns-8
+returns-8 c = ruled (c .before) .kept (c .if7 .left)
 
 pub judge-spec : {M : Type 1} → statement M
 judge-spec =
@@ -101,6 +112,7 @@ judge-spec =
     data-count-requires
     wide-requires
     returns-5
-    piece-rule-requires
     returns-6
-    returns-7)
+    piece-rule-requires
+    returns-7
+    returns-8)

@@ -1,4 +1,4 @@
--- `stream::step` meets its contract: STORE, COUNT, or what `advance` did (Steps).
+-- `stream::step` meets its contract: STORE, SURPLUS, or what `advance` did (Steps).
 use Rattle.format.proofs.Limits.{some-bytes, some-numbers}
 use Rattle.stream.proofs.Steps.{no-area, too-many, taken}
 use borrow.Author.Needs.{needs}

@@ -103,7 +103,11 @@ returns-20 c = simp (c .match .keys20)
 
 returns-21 : tie.Need-returns-21
 unfolding refusalNamed
-returns-21 c = others refusalTable (c .before .args .number) (c .match .rest) .0
+returns-21 c = simp (c .match .keys21)
+
+returns-22 : tie.Need-returns-22
+unfolding refusalNamed
+returns-22 c = others refusalTable (c .before .args .number) (c .match .rest) .0
 
 pub refusal-of-spec : {M : Type 1} → statement M
 refusal-of-spec =
@@ -129,4 +133,5 @@ refusal-of-spec =
     returns-18
     returns-19
     returns-20
-    returns-21)
+    returns-21
+    returns-22)
