@@ -321,6 +321,7 @@ static void refused_images(void)
     const uint8_t form[] = {0x91, 0x45, 0x00, 0xC0, 0x10, 7};
     const uint8_t remote[] = {0xC1, 0x45, 0x00, 0xC0, 0x10, 7};
     const uint8_t count[] = {0x82, 0x45, 0x00, 0xC0, 0x10, 7};
+    const uint8_t surplus[] = {0x80, 0x45, 0x00, 0xC0, 0x10, 7};
     const uint8_t numbered_single[] = {0x81, 0x45, 0x00, 0xC1, 0x10, 7};
     const uint8_t end_2[] = {0x81, 0x45, 0x00, 0x82, 0x10, 9};
     const uint8_t bus = SILJUVATT_BUS_A;
@@ -328,6 +329,7 @@ static void refused_images(void)
     REFUSED(RECEIVE(bus, form, sizeof form), SILJUVATT_REFUSAL_FORM);
     REFUSED(RECEIVE(bus, remote, sizeof remote), SILJUVATT_REFUSAL_REMOTE);
     REFUSED(RECEIVE(bus, count, sizeof count), SILJUVATT_REFUSAL_COUNT);
+    REFUSED(RECEIVE(bus, surplus, sizeof surplus), SILJUVATT_REFUSAL_SURPLUS);
     REFUSED(RECEIVE(bus, numbered_single, sizeof numbered_single), SILJUVATT_REFUSAL_PIECE);
     REFUSED(RECEIVE(bus, end_2, sizeof end_2), SILJUVATT_REFUSAL_STEP);
     REFUSED(RECEIVE(bus, end_2, sizeof end_2), SILJUVATT_REFUSAL_ORPHAN);
@@ -524,10 +526,15 @@ static void names(void)
     const uint32_t packet_of_7 = UINT32_C(0x40007);
 
     SILJUVATT_REFUSALS(TOLD)
-    SAME_TEXT(siljuvatt_refusal_name(0), "UNKNOWN");
+    /* What no call gave has no name: the numbers have gaps. */
+    for (uint32_t number = 0; number < 256; number++) {
+        if (!provoked[number]) {
+            SAME_TEXT(siljuvatt_refusal_name(number), "UNKNOWN");
+            SAME_TEXT(siljuvatt_refusal_text(number), "no refusal of this release");
+        }
+    }
     SAME_TEXT(siljuvatt_refusal_name(UINT32_C(0x8000FFFF)), "UNKNOWN");
     SAME_TEXT(siljuvatt_refusal_name(packet_of_7), "UNKNOWN");
-    SAME_TEXT(siljuvatt_refusal_text(0), "no refusal of this release");
     SAME_TEXT(siljuvatt_refusal_text(packet_of_7), "no refusal of this release");
 }
 

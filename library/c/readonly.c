@@ -127,7 +127,7 @@ struct format {
     struct image later_middle;  /* number 2 */
     struct image later_end;     /* number 2 */
     size_t bad_images;
-    struct bad_image bad[6];
+    struct bad_image bad[7];
 };
 
 static const struct format extended = {
@@ -139,13 +139,14 @@ static const struct format extended = {
     {6, {0x81, 0x45, 0x00, 0x81, 0x10, 9}},
     {13, {0x88, 0x45, 0x00, 0x02, 0x10, 1, 2, 3, 4, 5, 6, 7, 8}},
     {6, {0x81, 0x45, 0x00, 0x82, 0x10, 9}},
-    6,
+    7,
     {
         {SILJUVATT_REFUSAL_LENGTH, {4, {0x81, 0x45, 0x00, 0xC0}}},
         {SILJUVATT_REFUSAL_FORM, {6, {0x91, 0x45, 0x00, 0xC0, 0x10, 0x07}}},
         {SILJUVATT_REFUSAL_REMOTE, {6, {0xC1, 0x45, 0x00, 0xC0, 0x10, 0x07}}},
         {SILJUVATT_REFUSAL_COUNT, {6, {0x82, 0x45, 0x00, 0xC0, 0x10, 0x07}}},
         {SILJUVATT_REFUSAL_COUNT, {12, {0x8C, 0x45, 0x00, 0xC0, 0x10, 1, 2, 3, 4, 5, 6, 7}}},
+        {SILJUVATT_REFUSAL_SURPLUS, {6, {0x80, 0x45, 0x00, 0xC0, 0x10, 0x07}}},
         {SILJUVATT_REFUSAL_PIECE, {6, {0x81, 0x45, 0x00, 0xC1, 0x10, 0x07}}},
     },
 };
@@ -159,12 +160,13 @@ static const struct format standard = {
     {5, {0x96, 0xC3, 1, 8, 9}},
     {10, {0x96, 0x88, 2, 1, 2, 3, 4, 5, 6, 7}},
     {4, {0x96, 0xC2, 2, 8}},
-    5,
+    6,
     {
         {SILJUVATT_REFUSAL_LENGTH, {1, {0x96}}},
         {SILJUVATT_REFUSAL_REMOTE, {3, {0x96, 0xF1, 0x07}}},
         {SILJUVATT_REFUSAL_COUNT, {3, {0x96, 0xE2, 0x07}}},
         {SILJUVATT_REFUSAL_COUNT, {9, {0x96, 0xEC, 1, 2, 3, 4, 5, 6, 7}}},
+        {SILJUVATT_REFUSAL_SURPLUS, {3, {0x96, 0xE0, 0x07}}},
         {SILJUVATT_REFUSAL_PIECE, {4, {0x96, 0xC2, 1, 8}}},
     },
 };

@@ -1,7 +1,7 @@
 /*
  * What the example does not show: no bytes at all (NULL, 0) wherever the header allows them, lengths that are none,
- * filters, the order of refusals, the bytes of states, and counts of 9 to 15. Prints each check that fails and ends
- * with 1 if one does.
+ * filters, the order of refusals, the bytes of states, counts of 9 to 15, and images too short or too long for their
+ * count. Prints each check that fails and ends with 1 if one does.
  */
 #include "siljuvatt.h"
 
@@ -247,10 +247,8 @@ static void read_as_8(const struct filled *piece, uint8_t count)
     SAME((uint32_t)memcmp(station, station_with_8, sizeof station), 0);
     SAME((uint32_t)memcmp(store, store_with_8, sizeof store), 0);
 
-    /* Other lengths, and what is refused before them. */
+    /* What is refused before the count is read. */
     begin(format, piece->after_start);
-    REFUSED(RECEIVE(image, format->header + 7), SILJUVATT_REFUSAL_COUNT);
-    REFUSED(RECEIVE(image, format->header), SILJUVATT_REFUSAL_COUNT);
     REFUSED(RECEIVE(image, format->header + 9), SILJUVATT_REFUSAL_LENGTH);
     image[format->count_at] |= format->rtr;
     REFUSED(RECEIVE(image, format->header + 9), SILJUVATT_REFUSAL_LENGTH);
@@ -297,6 +295,40 @@ static void counts_of_9_to_15(void)
     longest_read_as_8(&standard);
 }
 
+/* Every count before every number of data bytes that it does not say; then the piece is answered as without them. */
+static void wrong_lengths(const struct filled *piece)
+{
+    const struct format *format = piece->format;
+    uint8_t image[sizeof piece->image];
+
+    memcpy(image, piece->image, sizeof image);
+    begin(format, piece->after_start);
+    for (uint8_t count = 0; count <= 15; count++) {
+        size_t said = count < 8 ? count : 8;
+        image[format->count_at] = (uint8_t)((image[format->count_at] & 0xF0) | count);
+        for (size_t data = 0; data < said; data++) {
+            REFUSED(RECEIVE(image, format->header + data), SILJUVATT_REFUSAL_COUNT);
+        }
+        for (size_t data = said + 1; data <= 8; data++) {
+            REFUSED(RECEIVE(image, format->header + data), SILJUVATT_REFUSAL_SURPLUS);
+        }
+    }
+    SAME(RECEIVE(piece->image, format->header + 8), piece->answer);
+}
+
+/* Request L4 of document 02, which overrules document 01: too short is COUNT, too long SURPLUS, both before PIECE. */
+static void too_short_or_too_long(void)
+{
+    const uint8_t single_1_of_none[] = {0x80, 0x45, 0x00, 0xC1, 0x10, 7};
+
+    for (size_t i = 0; i < sizeof filled / sizeof filled[0]; i++) {
+        wrong_lengths(&filled[i]);
+    }
+    begin(&extended, false);
+    REFUSED(RECEIVE(single_1_of_none, sizeof single_1_of_none), SILJUVATT_REFUSAL_SURPLUS);
+    REFUSED(RECEIVE(single_1_of_none, sizeof single_1_of_none - 1), SILJUVATT_REFUSAL_PIECE);
+}
+
 int main(void)
 {
     splitting_of_nothing();
@@ -307,6 +339,7 @@ int main(void)
     unsound_stations();
     bytes_as_described();
     counts_of_9_to_15();
+    too_short_or_too_long();
     printf("%d checks, %d failed\n", checks, failures);
     return failures == 0 ? 0 : 1;
 }

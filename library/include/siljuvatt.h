@@ -97,13 +97,14 @@ SILJUVATT_USE_ANSWER uint32_t siljuvatt_version(void);
 
 /*
  * Every refusal: its name, its number, when it is given. The list is the only one: enum siljuvatt_refusal has
- * SILJUVATT_REFUSAL_LENGTH = 1 and so on. Later releases add numbers, with gaps; none gets another meaning.
+ * SILJUVATT_REFUSAL_LENGTH = 1 and so on. The numbers have gaps, and later releases add some: a switch needs a default.
+ * What is added may take over a part of another's meaning, as SURPLUS did of COUNT's. No number is given anew.
  */
 #define SILJUVATT_REFUSALS(REFUSAL) \
     REFUSAL(LENGTH, 1, "the image's length is outside its format's range") \
     REFUSAL(FORM, 2, "fixed bits of an extended image are wrong") \
     REFUSAL(REMOTE, 3, "RTR is 1") \
-    REFUSAL(COUNT, 4, "the image's length is not what its count says; a count of 9 to 15 says 8") \
+    REFUSAL(COUNT, 4, "the image is shorter than its count says; a count of 9 to 15 says 8") \
     REFUSAL(PIECE, 5, "a rule on flag, number and count is broken") \
     REFUSAL(ORPHAN, 6, "a middle or an end while its stream is not collecting") \
     REFUSAL(STEP, 7, "another number than awaited; the stream is idle now") \
@@ -120,7 +121,8 @@ SILJUVATT_USE_ANSWER uint32_t siljuvatt_version(void);
     REFUSAL(BUSY, 18, "a start during an exchange") \
     REFUSAL(IDLE, 19, "a reply or a timeout with no exchange") \
     REFUSAL(NOTAWAITED, 20, "the reply does not count") \
-    REFUSAL(STATE, 21, "the bytes are no sound station, master or watch of this release's layout")
+    REFUSAL(STATE, 21, "the bytes are no sound station, master or watch of this release's layout") \
+    REFUSAL(SURPLUS, 25, "the image is longer than its count says")
 
 #define SILJUVATT_REFUSAL_NUMBER_(name, number, text) SILJUVATT_REFUSAL_##name = number,
 enum siljuvatt_refusal { SILJUVATT_REFUSALS(SILJUVATT_REFUSAL_NUMBER_) };
@@ -223,7 +225,7 @@ SILJUVATT_USE_ANSWER uint32_t siljuvatt_close(uint8_t *station, size_t station_l
  * area of the slot with the frame's key are written to.
  * A count of 9 to 15 in the image is read as 8, in both formats: it says eight data bytes (ISO 11898-1, classical CAN),
  * of which a standard start, middle or end has its number first. Nothing keeps which count it was.
- * Refuses: STATE, STORE, FIELD (the bus), LENGTH, FORM, REMOTE, COUNT, PIECE, ORPHAN, STEP, LONG.
+ * Refuses: STATE, STORE, FIELD (the bus), LENGTH, FORM, REMOTE, COUNT, SURPLUS, PIECE, ORPHAN, STEP, LONG.
  */
 SILJUVATT_USE_ANSWER uint32_t siljuvatt_receive(uint8_t *station, size_t station_length, uint8_t *store,
                                                 size_t store_length, uint8_t bus, const uint8_t *image,

@@ -230,7 +230,7 @@ pub extern "C" fn siljuvatt_close(state: &mut [u8], slot: usize) -> u32
 }
 
 // Receives an image on a bus: packet and its length, kept, filtered, or: STATE, STORE, FIELD, LENGTH, FORM,
-// REMOTE, COUNT, PIECE, ORPHAN, STEP, LONG.
+// REMOTE, COUNT, SURPLUS, PIECE, ORPHAN, STEP, LONG.
 #[no_mangle]
 pub extern "C" fn siljuvatt_receive(
     state: &mut [u8],

@@ -2,7 +2,7 @@
 
 Frames of both formats, split and joined; up to sixteen streams a station; acceptance filters; a master's exchanges over
 both buses; a watch for a bus gone silent. The functions behind this module are proved; the module hands bytes to them
-and names their answers. What cannot be done raises Refused, with document 01's number and name.
+and names their answers. What cannot be done raises Refused, with a number and a name of document 01 or 02.
 
 The shared library is loaded at the first call: the file that load() was given, or else the one that the environment
 variable SILJUVATT_SO names, or else libsiljuvatt.so beside this file, where pip installs it, or in target/staticlib of
@@ -123,7 +123,11 @@ Fields = Union[ExtendedFields, StandardFields, Sequence[int]]
 
 
 class Refusal(IntEnum):
-    """Document 01's refusals, each with the text that says when it is given: Refusal.REMOTE.text."""
+    """The refusals of documents 01 and 02, each with the text that says when it is given: Refusal.REMOTE.text.
+
+    The numbers have gaps. Later releases add some, and these may take over a part of another's meaning, as SURPLUS did
+    of COUNT's: what compares refusals needs a case for the others.
+    """
 
     text: str
 
@@ -136,7 +140,7 @@ class Refusal(IntEnum):
     LENGTH = 1, "the image's length is outside its format's range"
     FORM = 2, "fixed bits of an extended image are wrong"
     REMOTE = 3, "RTR is 1"
-    COUNT = 4, "the image's length is not what its count says; a count of 9 to 15 says 8"
+    COUNT = 4, "the image is shorter than its count says; a count of 9 to 15 says 8"
     PIECE = 5, "a rule on flag, number and count is broken"
     ORPHAN = 6, "a middle or an end while its stream is not collecting"
     STEP = 7, "another number than awaited; the stream is idle now"
@@ -154,6 +158,7 @@ class Refusal(IntEnum):
     IDLE = 19, "a reply or a timeout with no exchange"
     NOTAWAITED = 20, "the reply does not count"
     STATE = 21, "the bytes are no sound station, master or watch of this release's layout"
+    SURPLUS = 25, "the image is longer than its count says"
 
 
 _REFUSALS = {int(refusal): refusal for refusal in Refusal}
@@ -532,7 +537,7 @@ class Station:
 
         A count of 9 to 15 in the image is read as 8, in both formats: it says eight data bytes (ISO 11898-1, classical
         CAN), of which a standard start, middle or end has its number first. Nothing keeps which count it was.
-        Refused: STORE, FIELD (the bus), LENGTH, FORM, REMOTE, COUNT, PIECE, ORPHAN, STEP, LONG.
+        Refused: STORE, FIELD (the bus), LENGTH, FORM, REMOTE, COUNT, SURPLUS, PIECE, ORPHAN, STEP, LONG.
         """
         answer = _accepted(_library().siljuvatt_receive(
             self._state, STATION_SIZE, self._store, self._store_size, _byte(bus), *_given(image)))

@@ -2,8 +2,8 @@
 //! sixteen streams a [`Station`]; acceptance filters ([`Filter`], [`Row`]); a [`Master`]'s exchanges over both buses; a
 //! [`Watch`] for a bus gone silent.
 //!
-//! The functions behind this crate are proved to answer as document 01 of the order says, with request L3 of its
-//! document 02, for every input. The crate itself is thin, and tested: it hands slices to those functions and names
+//! The functions behind this crate are proved to answer as document 01 of the order says, with requests L3 and L4 of
+//! its document 02, for every input. The crate itself is thin, and tested: it hands slices to those functions and names
 //! their answers. No call asks anything of its caller; what cannot be done is a [`Refusal`], and nothing has changed
 //! then, but for the stream that lost its place ([`Refusal::Step`], [`Refusal::Long`]).
 //!

@@ -1,12 +1,13 @@
-//! The refusals of document 01.
+//! The refusals of documents 01 and 02.
 
 use core::error::Error;
 use core::fmt;
 
 macro_rules! refusals {
     ($($name:ident = $number:literal, $text:literal, $says:literal;)*) => {
-        /// Why a call was refused: a number and a name of document 01. Later releases add some, and numbers may have
-        /// gaps.
+        /// Why a call was refused: a number and a name of document 01 or 02. The numbers have gaps. Later releases add
+        /// some, and these may take over a part of another's meaning, as `Surplus` did of `Count`'s: a match needs an
+        /// arm for the others.
         ///
         /// ```
         /// use siljuvatt::Refusal;
@@ -15,6 +16,16 @@ macro_rules! refusals {
         /// assert_eq!(refusal, Refusal::Step);
         /// assert_eq!((refusal.number(), refusal.name()), (7, "STEP"));
         /// assert_eq!(refusal.to_string(), "7 STEP: another number than awaited; the stream is idle now");
+        ///
+        /// fn driver(refusal: Refusal) -> String {
+        ///     match refusal {
+        ///         Refusal::Count => "cut bytes off".into(),
+        ///         Refusal::Surplus => "left old bytes behind".into(),
+        ///         other => other.to_string(),
+        ///     }
+        /// }
+        /// assert_eq!(driver(Refusal::Surplus), "left old bytes behind");
+        /// assert_eq!(driver(Refusal::Remote), "3 REMOTE: RTR is 1");
         /// ```
         #[derive(Clone, Copy, Debug, PartialEq, Eq, PartialOrd, Ord, Hash)]
         #[non_exhaustive]
@@ -41,7 +52,7 @@ macro_rules! refusals {
             /// All that this release names, by their numbers.
             pub const ALL: &'static [Refusal] = &[$(Refusal::$name),*];
 
-            /// The number in document 01. Of [`Refusal::Unknown`] it is the low 16 bits of the answer.
+            /// The number in its document. Of [`Refusal::Unknown`] it is the low 16 bits of the answer.
             #[must_use]
             pub fn number(self) -> u16 {
                 match self {
@@ -50,7 +61,7 @@ macro_rules! refusals {
                 }
             }
 
-            /// The name in document 01, or `UNKNOWN`.
+            /// The name in its document, or `UNKNOWN`.
             #[must_use]
             pub fn name(self) -> &'static str {
                 match self {
@@ -75,7 +86,7 @@ refusals! {
     Length = 1, "LENGTH", "the image's length is outside its format's range";
     Form = 2, "FORM", "fixed bits of an extended image are wrong";
     Remote = 3, "REMOTE", "RTR is 1";
-    Count = 4, "COUNT", "the image's length is not what its count says; a count of 9 to 15 says 8";
+    Count = 4, "COUNT", "the image is shorter than its count says; a count of 9 to 15 says 8";
     Piece = 5, "PIECE", "a rule on flag, number and count is broken";
     Orphan = 6, "ORPHAN", "a middle or an end while its stream is not collecting";
     Step = 7, "STEP", "another number than awaited; the stream is idle now";
@@ -93,6 +104,7 @@ refusals! {
     Idle = 19, "IDLE", "a reply or a timeout with no exchange";
     NotAwaited = 20, "NOTAWAITED", "the reply does not count";
     State = 21, "STATE", "the bytes are no sound station, master or watch of this release's layout";
+    Surplus = 25, "SURPLUS", "the image is longer than its count says";
 }
 
 impl fmt::Display for Refusal {
@@ -126,5 +138,28 @@ impl TryFrom<u16> for Refusal {
         let mut all = Refusal::ALL.iter().copied();
         all.find(|refusal| refusal.number() == number)
             .ok_or(NoRefusal(number))
+    }
+}
+
+#[cfg(test)]
+mod tests {
+    use super::*;
+
+    /// The refusals are listed by their numbers, and a number in a gap, or beyond both ends, is none's.
+    #[test]
+    fn numbers_rise_with_gaps() {
+        let mut free = 0;
+        for &refusal in Refusal::ALL {
+            let number = refusal.number();
+            assert!(free <= number, "{refusal}");
+            for gap in free..number {
+                assert_eq!(Refusal::try_from(gap), Err(NoRefusal(gap)));
+            }
+            assert_eq!(Refusal::try_from(number), Ok(refusal));
+            free = number + 1;
+        }
+        for beyond in free..=u16::MAX {
+            assert_eq!(Refusal::try_from(beyond), Err(NoRefusal(beyond)));
+        }
     }
 }

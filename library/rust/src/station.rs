@@ -153,13 +153,17 @@ impl Station {
     /// assert_eq!(reply, Reply::Packet { length: 8, broke: false });
     /// assert_eq!(station.read(&store, slot)?, b"00412701");
     /// assert_eq!(station.receive(&mut store, Bus::B, b"\x8C\x06\x00\xC0\x100041270"), Err(Refusal::Count));
+    ///
+    /// // A count of 3 before four.
+    /// assert_eq!(station.receive(&mut store, Bus::B, b"\x83\x06\x00\xC0\x100041"), Err(Refusal::Surplus));
     /// # Ok::<(), Refusal>(())
     /// ```
     ///
     /// # Errors
     ///
     /// In this order: [`Refusal::Store`]; of the image [`Refusal::Length`], [`Refusal::Form`], [`Refusal::Remote`],
-    /// [`Refusal::Count`], [`Refusal::Piece`]; of the stream [`Refusal::Orphan`], [`Refusal::Step`], [`Refusal::Long`].
+    /// [`Refusal::Count`], [`Refusal::Surplus`], [`Refusal::Piece`]; of the stream [`Refusal::Orphan`],
+    /// [`Refusal::Step`], [`Refusal::Long`].
     pub fn receive(&mut self, store: &mut [u8], bus: Bus, image: &[u8]) -> Result<Reply, Refusal> {
         let answer = slices::receive(&mut self.bytes, store, bus.number(), image);
         reply_of(Answer(answer))
