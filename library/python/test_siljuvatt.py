@@ -296,12 +296,14 @@ class Receiving(Case):
         for name, frame in [
                 ("LENGTH", "7F 00 00 00"), ("FORM", "7F 45 00 C1 17"), ("FORM", "EF 45 00 C1 10"),
                 ("FORM", "80 45 00 C0 11"), ("REMOTE", "CF 45 00 C1 10"), ("COUNT", "8F 45 00 C1 10"),
-                ("COUNT", "82 45 00 C1 10 01"), ("PIECE", "81 45 00 C1 10 01"), ("ORPHAN", "81 45 00 81 10 01")]:
+                ("COUNT", "82 45 00 C1 10 01"), ("REMOTE", "C0 45 00 C1 10 01"), ("SURPLUS", "80 45 00 C1 10 01"),
+                ("PIECE", "81 45 00 C1 10 01"), ("ORPHAN", "81 45 00 81 10 01")]:
             self.unchanged(name, station, bytes.fromhex(frame))
         station = self.station(Format.STANDARD, SLAVE)
         for name, frame in [
                 ("LENGTH", "96"), ("LENGTH", "96" * 11), ("REMOTE", "96 FF"), ("COUNT", "96 EF"), ("COUNT", "96 E2 01"),
-                ("PIECE", "96 A1 00"), ("PIECE", "96 88 FF 01 02 03 04 05 06 07"), ("PIECE", "96 C0"),
+                ("REMOTE", "96 F0 00"), ("SURPLUS", "96 A0 00"), ("PIECE", "96 A1 00"),
+                ("PIECE", "96 88 FF 01 02 03 04 05 06 07"), ("PIECE", "96 C0"),
                 ("ORPHAN", "96 88 FE 01 02 03 04 05 06 07")]:
             self.unchanged(name, station, bytes.fromhex(frame))
 
@@ -325,7 +327,10 @@ class Receiving(Case):
 
 
 class Counts(Case):
-    """Counts of 9 to 15 are read as 8: request L3 of document 02, which overrules document 01."""
+    """Counts and lengths, by requests L3 and L4 of document 02, which overrule document 01.
+
+    A count of 9 to 15 is read as 8, and an image too short for its count is told from one too long.
+    """
 
     CODES = range(9, 16)
     DATA = " 01 02 03 04 05 06 07 08"
@@ -365,16 +370,20 @@ class Counts(Case):
                 self.assertEqual(station.receive(Bus.A, self.with_count(format, frame, code)), answer)
                 self.assertTrue(station == with_8, (frame, code))
 
-    def test_with_fewer_data_bytes_it_is_refused(self):
+    def test_too_short_is_told_from_too_long(self):
         for format, awaiting, frame, _ in self.stations():
             _, _, header = self.LAYOUT[format]
-            for code, size in itertools.product(self.CODES, (0, 1, 7)):
-                self.unchanged("COUNT", awaiting(), self.with_count(format, frame, code)[:header + size])
+            station = awaiting()
+            for code, size in itertools.product(range(16), range(9)):
+                said = min(code, 8)
+                if size != said:
+                    name = "COUNT" if size < said else "SURPLUS"
+                    self.unchanged(name, station, self.with_count(format, frame, code)[:header + size])
 
     def test_length_form_and_remote_come_first(self):
         for format, awaiting, frame, _ in self.stations():
             at, rtr, _ = self.LAYOUT[format]
-            for code in self.CODES:
+            for code in (0, 7, *self.CODES):
                 remote = self.edited(frame, at, frame[at] & 0xF0 | rtr | code)
                 self.unchanged("REMOTE", awaiting(), remote)
                 self.unchanged("REMOTE", awaiting(), remote[:-1])
@@ -396,6 +405,7 @@ class Counts(Case):
                 broken = self.with_count(format, bytes.fromhex(frame), code)
                 self.unchanged("PIECE", station, broken)
                 self.unchanged("COUNT", station, broken[:-1])
+            self.unchanged("SURPLUS", station, self.with_count(format, bytes.fromhex(frame), 7))
 
     def test_a_packet_comes_out_byte_for_byte(self):
         """The longest packet, whose pieces are all filled: written with 8, received with 9 to 15 in turn."""
@@ -724,7 +734,7 @@ class Answers(Case):
 
     def test_refusals_that_are_not_known(self):
         station, master, watch = Station(), Master(), Watch(0)
-        for number in (0, 22, 30, 99, 0xFFFF):
+        for number in sorted({*range(100), 0xFFFF} - {*Refusal}):  # those in gaps too
             with self.answering(0x80000000 | number):
                 for call, *arguments in [
                         (piece_count, 0, 0), (station.receive, 0, b""), (master.start, 1, 1), (watch.check, 0)]:

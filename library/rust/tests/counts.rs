@@ -1,4 +1,5 @@
-//! Counts of 9 to 15: request L3 of document 02, which overrules document 01. Each is read as 8, in both formats.
+//! Counts and lengths, by requests L3 and L4 of document 02, which overrule document 01, in both formats: a count of 9
+//! to 15 is read as 8, and an image too short for its count is told from one too long.
 #![cfg(feature = "alloc")]
 
 mod common;
@@ -72,15 +73,20 @@ fn with_eight_data_bytes_all_is_as_with_8() {
     }
 }
 
+/// Every count before every number of data bytes that an image may have.
 #[test]
-fn with_fewer_data_bytes_it_is_refused() {
+fn too_short_is_told_from_too_long() {
     for format in BOTH {
         let (_, _, header) = layout(format);
         for (mut bench, image, _) in awaited(format) {
-            for code in CODES {
+            for code in 0..=15 {
                 let image = with_count(format, &image, code);
-                for length in header..image.len() {
+                let said = header + usize::from(code.min(8));
+                for length in header..said {
                     bench.refuses(&image[..length], Refusal::Count);
+                }
+                for length in said + 1..=image.len() {
+                    bench.refuses(&image[..length], Refusal::Surplus);
                 }
             }
         }
@@ -92,7 +98,7 @@ fn length_form_and_remote_come_first() {
     for format in BOTH {
         let (at, rtr, _) = layout(format);
         for (mut bench, image, _) in awaited(format) {
-            for code in CODES {
+            for code in 0..=15 {
                 let mut image = with_count(format, &image, code);
                 image[at] |= rtr;
                 bench.refuses(&image, Refusal::Remote);
@@ -109,7 +115,7 @@ fn length_form_and_remote_come_first() {
     }
 }
 
-/// With eight data bytes, so that the length is right: the piece rules are read from 8.
+/// With eight data bytes the length is right, and the piece rules are read from 8.
 #[test]
 fn piece_rules_come_after_it() {
     let broken: [(Format, &[(Flag, u8)]); 2] = [
@@ -128,7 +134,30 @@ fn piece_rules_come_after_it() {
                 bench.refuses(&image, Refusal::Piece);
                 bench.refuses(&image[..image.len() - 1], Refusal::Count);
             }
+            for code in 0..8 {
+                bench.refuses(&with_count(format, &image, code), Refusal::Surplus);
+            }
         }
+    }
+}
+
+/// What is refused for its length between the pieces of a packet does not touch it.
+#[test]
+fn a_packet_comes_out_between_wrong_lengths() {
+    for format in BOTH {
+        let mut bench = Bench::new(fields(format));
+        let bytes = packet(30, 4);
+        let (at, _, _) = layout(format);
+        let mut last = kept();
+        for image in split(fields(format), &bytes) {
+            assert_eq!(last, kept());
+            bench.refuses(&image[..image.len() - 1], Refusal::Count);
+            let less = (image[at] & 0x0F) - 1;
+            bench.refuses(&with_count(format, &image, less), Refusal::Surplus);
+            last = bench.receive(&image);
+        }
+        assert_eq!(last, whole(30));
+        assert_eq!(bench.read(), Ok(&bytes[..]), "{format:?}");
     }
 }
 

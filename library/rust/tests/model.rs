@@ -183,7 +183,7 @@ fn check_tally(tally: &BTreeMap<String, usize>, answers: &str) {
 
 const ANSWERS: &str =
     "filtered; kept, broke false; kept, broke true; packet, broke false; packet, broke true; \
-    LENGTH; REMOTE; COUNT; PIECE; ORPHAN; STEP; open Ok(()); open Err(Taken); open Err(Full); \
+    LENGTH; REMOTE; COUNT; SURPLUS; PIECE; ORPHAN; STEP; open Ok(()); open Err(Taken); open Err(Full); \
     close Ok(()); close Err(Closed); read Ok(()); read Err(Closed); read Err(NoPacket)";
 
 const DAMAGE: &str = "frame lost before this one; length wrong; bits flipped; random bytes";

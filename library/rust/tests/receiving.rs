@@ -319,6 +319,8 @@ fn standard_images_refused_in_their_order() {
     bench.refuses(b"\x96\xEF", Refusal::Count);
     bench.refuses(b"\x96\xE9\x01\x02\x03\x04\x05\x06\x07", Refusal::Count);
     bench.refuses(b"\x96\xE2\x01", Refusal::Count);
+    bench.refuses(b"\x96\xF0\x00", Refusal::Remote); // too long too
+    bench.refuses(b"\x96\xA0\x00", Refusal::Surplus); // a start of count 0 too
     bench.refuses(b"\x96\xA1\x00", Refusal::Piece);
 }
 
@@ -332,5 +334,7 @@ fn extended_images_refused_in_their_order() {
     bench.refuses(b"\xCF\x45\x00\xC1\x10", Refusal::Remote); // a count of 15 too
     bench.refuses(b"\x8F\x45\x00\xC1\x10", Refusal::Count); // the number of a single is 1 too
     bench.refuses(b"\x82\x45\x00\xC1\x10\x01", Refusal::Count);
+    bench.refuses(b"\xC0\x45\x00\xC1\x10\x01", Refusal::Remote); // too long too
+    bench.refuses(b"\x80\x45\x00\xC1\x10\x01", Refusal::Surplus);
     bench.refuses(b"\x81\x45\x00\xC1\x10\x01", Refusal::Piece);
 }
