@@ -127,6 +127,13 @@ fn counted(format: Format, count: u8) -> Vec<Vec<u8>> {
     bent(format, (at, 8 ^ count))
 }
 
+/// The single of 8 bytes for the last slot, without its last byte.
+fn cut(format: Format) -> Vec<Vec<u8>> {
+    let mut images = images_of(format, LAST, 8);
+    images[0].pop();
+    images
+}
+
 /// One piece of a packet of that size for the last slot.
 fn piece_of(format: Format, size: usize, k: usize) -> Vec<Vec<u8>> {
     vec![images_of(format, LAST, size).swap_remove(k)]
@@ -212,15 +219,15 @@ fn refused(format: Format) -> Vec<Row> {
         Format::Extended => rows.extend([
             refusal(Refusal::Form, wrong((4, 1))),
             refusal(Refusal::Remote, wrong((0, 0x40))),
-            refusal(Refusal::Count, on_idle(counted(format, 7))),
             refusal(Refusal::Piece, wrong((3, 1))),
         ]),
         Format::Standard => rows.extend([
             refusal(Refusal::Remote, wrong((1, 0x10))),
-            refusal(Refusal::Count, on_idle(counted(format, 7))),
             refusal(Refusal::Piece, wrong((1, 0x20))),
         ]),
     }
+    rows.push(refusal(Refusal::Count, on_idle(cut(format))));
+    rows.push(refusal(Refusal::Surplus, on_idle(counted(format, 7))));
     rows.push(refusal(Refusal::Orphan, on_idle(piece_of(format, 64, 1))));
     let skipped = Arrival::anew(&collecting, piece_of(format, 64, 2));
     rows.push(refusal(Refusal::Step, skipped));

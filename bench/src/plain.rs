@@ -4,6 +4,7 @@
 #![forbid(unsafe_code)]
 
 pub use second::refusal::Refusal;
+use std::cmp::Ordering;
 
 pub const SLOTS: usize = 16;
 pub const AREA_SIZE: usize = 2_048;
@@ -149,9 +150,13 @@ fn judge(format: Format, image: &[u8]) -> Result<Frame<'_>, Refusal> {
     }
 }
 
-/// How many data bytes a count says: from 8 on, eight.
-fn data_count(count: u8) -> usize {
-    usize::from(count.min(8))
+/// Whether there are as many data bytes as the count says; from 8 on it says eight.
+fn check_count(count: u8, data: &[u8]) -> Result<(), Refusal> {
+    match data.len().cmp(&usize::from(count.min(8))) {
+        Ordering::Less => Err(Refusal::Count),
+        Ordering::Equal => Ok(()),
+        Ordering::Greater => Err(Refusal::Surplus),
+    }
 }
 
 fn judge_extended(image: &[u8]) -> Result<Frame<'_>, Refusal> {
@@ -167,9 +172,7 @@ fn judge_extended(image: &[u8]) -> Result<Frame<'_>, Refusal> {
     if b0 & 0x40 != 0 {
         return Err(Refusal::Remote);
     }
-    if data_count(b0 & 15) != bytes.len() {
-        return Err(Refusal::Count);
-    }
+    check_count(b0 & 15, bytes)?;
     let flag = Flag::from_bits(b3 >> 6);
     let number = b3 & 63;
     if !extended_piece(flag, number, bytes.len()) {
@@ -209,9 +212,7 @@ fn judge_standard(image: &[u8]) -> Result<Frame<'_>, Refusal> {
     if b1 & 0x10 != 0 {
         return Err(Refusal::Remote);
     }
-    if data_count(b1 & 15) != data.len() {
-        return Err(Refusal::Count);
-    }
+    check_count(b1 & 15, data)?;
     let flag = Flag::from_bits(b1 >> 5);
     let (number, bytes) = match (flag, data) {
         (Flag::Single, _) => (0, data),

@@ -246,6 +246,7 @@ fn traffic_is_received_alike() {
         Refusal::Form,
         Refusal::Remote,
         Refusal::Count,
+        Refusal::Surplus,
         Refusal::Piece,
         Refusal::Orphan,
         Refusal::Step,
