@@ -57,6 +57,6 @@ class Images:
         return f"piece {k} of {len(packet)}:{answer_text(answer, 'length')} output{hex_text(output)}\n"
 
     def number(self, words):
-        place, name = words.number("place"), words.text("name")
-        answer = self.bench.ask(Operation.NUMBER, bytes([place])).only_answer()
+        number, name = words.number("number"), words.text("name")
+        answer = self.bench.ask(Operation.NUMBER, bytes([number])).only_answer()
         return f"{name} {answer.number}\n" if answer.kind == Kind.REFUSED else f"{name}{answer_text(answer)}\n"
