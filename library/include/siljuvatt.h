@@ -98,7 +98,8 @@ SILJUVATT_USE_ANSWER uint32_t siljuvatt_version(void);
 /*
  * Every refusal: its name, its number, when it is given. The list is the only one: enum siljuvatt_refusal has
  * SILJUVATT_REFUSAL_LENGTH = 1 and so on. The numbers have gaps, and later releases add some: a switch needs a default.
- * What is added may take over a part of another's meaning, as SURPLUS did of COUNT's. No number is given anew.
+ * What is added may take over a part of another's meaning, as SURPLUS did of COUNT's. No number is ever used again for
+ * something else.
  */
 #define SILJUVATT_REFUSALS(REFUSAL) \
     REFUSAL(LENGTH, 1, "the image's length is outside its format's range") \
