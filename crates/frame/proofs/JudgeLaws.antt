@@ -34,8 +34,8 @@ pub passing : (format : Format) (size : ℕ) (said : Layout) → Passed (checks 
 unfolding checks
 passing format size said p =
     let sized = each _ (p .0) in
-    let enough = leb-true (headerSize format + dataCount (said .code)) size (p .1 .1 .1 .0) in
-    let few = leb-true size (headerSize format + dataCount (said .code)) (p .1 .1 .1 .1 .0) in
+    let enough : headerSize format + dataCount (said .code) ≤ size = leb-true _ _ (p .1 .1 .1 .0) in
+    let few : size ≤ headerSize format + dataCount (said .code) = leb-true _ _ (p .1 .1 .1 .1 .0) in
     record {
       least = leb-true _ _ (sized .0);
       most = leb-true _ _ (sized .1 .0);
