@@ -24,6 +24,7 @@ MOST_STREAMS = 16
 
 # Refusal numbers.
 LENGTH, FORM, REMOTE, COUNT, PIECE, ORPHAN, STEP, LONG = range(1, 9)
+SURPLUS = 25
 
 
 class DamagedRecord(Exception):
@@ -83,7 +84,10 @@ def count_of(image):
 
 
 def judge_image(image):
-    """Return the lowest refusal number of 1 to 5 that applies, or 0."""
+    """Return the first refusal that applies, of 1 to 5 with 25 in the place of 4, or 0.
+
+    L4 tells apart the two ways in which count and length can disagree.
+    """
     if not HEADER_SIZE <= len(image) <= HEADER_SIZE + MOST_DATA:
         return LENGTH
     first = image[0]
@@ -92,8 +96,10 @@ def judge_image(image):
     if first & 0b0100_0000:
         return REMOTE
     count = count_of(image)
-    if len(image) != HEADER_SIZE + count:
+    if len(image) < HEADER_SIZE + count:
         return COUNT
+    if len(image) > HEADER_SIZE + count:
+        return SURPLUS
     if not piece_is_sound(image[3] >> 6, image[3] & 63, count):
         return PIECE
     return 0

@@ -1,4 +1,6 @@
-//! Judging a frame image: refusals 1 to 5, or the frame it holds.
+//! Judging a frame image: refusals 1 to 5 and 25, or the frame it holds.
+
+use std::cmp::Ordering;
 
 use crate::format::{Format, MAX_COUNT};
 use crate::key::Fields;
@@ -30,7 +32,7 @@ impl Flag {
     }
 }
 
-/// A frame that refusals 1 to 5 let pass.
+/// A frame that refusals 1 to 5 and 25 let pass.
 #[derive(Clone, Copy, Debug, PartialEq, Eq)]
 pub struct Frame<'a> {
     pub fields: Fields,
@@ -44,7 +46,8 @@ pub struct Frame<'a> {
     pub packet: &'a [u8],
 }
 
-/// Judges an image. The checks stand in the order of the refusal numbers.
+/// Judges an image. The checks stand in the order of the refusal numbers, with
+/// 25 in the place of 4.
 pub fn judge(format: Format, image: &[u8]) -> Result<Frame<'_>, Refusal> {
     if !format.allows_image_of(image.len()) {
         return Err(Refusal::Length);
@@ -134,10 +137,12 @@ fn judge_count(byte: u8, data: &[u8]) -> Result<u8, Refusal> {
     // L3 overrules document 01, which refuses the codes 9 to 15: they are read
     // as 8, here and thus in the piece rules.
     let count = (byte & 0b1111).min(MAX_COUNT as u8);
-    if usize::from(count) != data.len() {
-        return Err(Refusal::Count);
+    // L4 tells apart the two ways in which the length can disagree.
+    match data.len().cmp(&usize::from(count)) {
+        Ordering::Less => Err(Refusal::Count),
+        Ordering::Equal => Ok(count),
+        Ordering::Greater => Err(Refusal::Surplus),
     }
-    Ok(count)
 }
 
 #[cfg(test)]
@@ -208,8 +213,10 @@ mod tests {
             }
         }
 
-        /// The answer in the words of document 01 and L3: "received counts 9
-        /// to 15 are read as 8, in both formats, before the piece rules".
+        /// The answer in the words of document 01, L3 and L4: "received counts
+        /// 9 to 15 are read as 8, in both formats, before the piece rules"; 4 is
+        /// "the image that is too short for its count", 25 "the one too long, at
+        /// the same place in the order".
         fn expected<'a>(&self, image: &'a [u8]) -> Result<Frame<'a>, Refusal> {
             let count = match self.code {
                 9..=15 => 8,
@@ -217,8 +224,10 @@ mod tests {
             };
             if self.size > 8 {
                 Err(Refusal::Length)
-            } else if self.size != usize::from(count) {
+            } else if self.size < usize::from(count) {
                 Err(Refusal::Count)
+            } else if self.size > usize::from(count) {
+                Err(Refusal::Surplus)
             } else if !self.keeps_the_piece_rule(count) {
                 Err(Refusal::Piece)
             } else {
@@ -329,7 +338,7 @@ mod tests {
         assert_eq!(extended(&first(0xA1)), Some(Refusal::Form));
         assert_eq!(extended(&first(0x01)), Some(Refusal::Form));
         assert_eq!(extended(&first(0xC1)), Some(Refusal::Remote));
-        assert_eq!(extended(&first(0x80)), Some(Refusal::Count));
+        assert_eq!(extended(&first(0x80)), Some(Refusal::Surplus));
         assert_eq!(extended(&first(0x82)), Some(Refusal::Count));
     }
 
@@ -375,17 +384,19 @@ mod tests {
     }
 
     #[test]
-    fn form_and_remote_come_before_a_code_over_8() {
-        for code in 9..=15 {
+    fn form_and_remote_come_before_the_count() {
+        let data = [1, 2, 3, 4, 5, 6, 7, 8];
+        for (code, size) in (0..=15).flat_map(|code| (0..=8).map(move |size| (code, size))) {
+            let with = |header: &[u8]| [header, &data[..size]].concat();
             for first in [0x90 | code, 0xD0 | code, 0xA0 | code, code] {
-                let image = [first, 0x45, 0x00, 0xC0, 0x10, 1, 2, 3, 4, 5, 6, 7, 8];
+                let image = with(&[first, 0x45, 0x00, 0xC0, 0x10]);
                 assert_eq!(extended(&image), Some(Refusal::Form));
             }
-            let mut image = [0xC0 | code, 0x45, 0, 0xC0, 0x10, 1, 2, 3, 4, 5, 6, 7, 8];
+            let image = with(&[0xC0 | code, 0x45, 0x00, 0xC0, 0x10]);
             assert_eq!(extended(&image), Some(Refusal::Remote));
-            image[4] |= 1;
+            let image = with(&[0xC0 | code, 0x45, 0x00, 0xC0, 0x11]);
             assert_eq!(extended(&image), Some(Refusal::Form));
-            let image = [0x96, 0xF0 | code, 1, 2, 3, 4, 5, 6, 7, 8];
+            let image = with(&[0x96, 0xF0 | code]);
             assert_eq!(standard(&image), Some(Refusal::Remote));
         }
     }
@@ -424,6 +435,7 @@ mod tests {
         assert_eq!(standard(&[0x96, 0xF3, 1, 2, 3]), Some(Refusal::Remote));
         assert_eq!(standard(&[0x96, 0xF3]), Some(Refusal::Remote));
         assert_eq!(standard(&[0x96, 0xE3, 1, 2]), Some(Refusal::Count));
+        assert_eq!(standard(&[0x96, 0xE1, 1, 2]), Some(Refusal::Surplus));
         assert_eq!(standard(&[0x96, 0xE9, 1]), Some(Refusal::Count));
         assert_eq!(standard(&[0x96, 0xE0]), None);
     }

@@ -143,6 +143,7 @@ mod tests {
     use crate::refusal::Refusal;
     use crate::station::{Station, STORE_SIZE};
     use std::io::ErrorKind;
+    use std::iter;
 
     const EXAMPLE: &[u8] = &[
         0x00, 0x08, 0x01, 0x00, 0x81, 0x45, 0x00, 0xC0, 0x10, 0x07, //
@@ -244,8 +245,9 @@ records 4
         let remote = [0xC1, 0x45, 0x00, 0xC0, 0x10, 0x07];
         let form = [0x91, 0x45, 0x00, 0xC0, 0x10, 0x07];
         let piece = [0x81, 0x45, 0x00, 0xC1, 0x10, 0x07];
-        let count = [0x82, 0x45, 0x00, 0xC0, 0x10, 0x07];
-        let images = [&[][..], &form, &remote, &count, &piece];
+        let short = [0x82, 0x45, 0x00, 0xC0, 0x10, 0x07];
+        let long = [0x80, 0x45, 0x00, 0xC0, 0x10, 0x07];
+        let images = [&[][..], &form, &remote, &short, &piece, &long];
         let input: Vec<u8> = images.iter().flat_map(|image| record(1, image)).collect();
         let expected = [
             "1 B refused 1",
@@ -253,7 +255,8 @@ records 4
             "3 B refused 3",
             "4 B refused 4",
             "5 B refused 5",
-            "records 5",
+            "6 B refused 25",
+            "records 6",
         ];
         assert_eq!(lines(&input), expected);
     }
@@ -278,6 +281,30 @@ records 4
             ];
             assert_eq!(lines(&input), expected, "{code}");
         }
+    }
+
+    #[test]
+    fn images_too_short_or_too_long_open_no_key_and_break_no_packet() {
+        let mut input = record(0, &image(63, 0x40, 8));
+        let mut refused = Vec::new();
+        // The end of the stream under way, and singles of many others.
+        let singles = (0..20).map(|source| (source, 0xC0));
+        for (source, flag_and_number) in iter::once((63, 0x81)).chain(singles) {
+            let mut image = image(source, flag_and_number, 2);
+            for (number, length) in [(4, 6), (25, 8)] {
+                image.resize(length, 0);
+                input.extend(record(0, &image));
+                refused.push(format!("{} A refused {number}", refused.len() + 2));
+            }
+        }
+        input.extend(record(0, &image(63, 0x81, 2)));
+        input.extend((0..16).flat_map(|source| record(0, &image(source, 0xC0, 0))));
+        let lines = lines(&input);
+        assert_eq!(lines[1..43], refused);
+        assert_eq!(lines[43], "44 A 0 63 0 0 2 1 0 2 packet 10");
+        // Sixteen keys are open: that one, and those of fifteen sources.
+        assert_eq!(lines[58], "59 A 0 14 0 0 3 0 0 0 packet 0");
+        assert_eq!(lines[59], "60 A 0 15 0 0 3 0 0 0 filtered");
     }
 
     #[test]

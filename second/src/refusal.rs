@@ -3,14 +3,14 @@
 /// Makes the list of refusals an enum that can be gone through.
 macro_rules! refusals {
     ($($name:ident = $number:literal,)*) => {
-        /// Why a call was refused; the discriminant is the number of document 01.
+        /// Why a call was refused; the discriminant is the number of documents 01 and 02.
         #[derive(Clone, Copy, Debug, PartialEq, Eq)]
         pub enum Refusal {
             $($name = $number,)*
         }
 
         impl Refusal {
-            /// Every refusal, in the order of the numbers.
+            /// Every refusal, in the order of the numbers, some of which may not be given.
             pub const ALL: &'static [Refusal] = &[$(Refusal::$name,)*];
         }
     };
@@ -38,15 +38,16 @@ refusals! {
     Idle = 19,
     NotAwaited = 20,
     State = 21,
+    Surplus = 25,
 }
 
 impl Refusal {
-    /// The number under which document 01 lists the refusal.
+    /// The number under which documents 01 and 02 list the refusal.
     pub fn number(self) -> u8 {
         self as u8
     }
 
-    /// The name under which document 01 lists it.
+    /// The name under which they list it.
     pub fn name(self) -> String {
         format!("{self:?}").to_uppercase()
     }
@@ -75,9 +76,10 @@ mod tests {
     }
 
     #[test]
-    fn names_are_those_of_document_01() {
+    fn names_are_those_of_documents_01_and_02() {
         assert_eq!(Refusal::Length.name(), "LENGTH");
         assert_eq!(Refusal::NotAwaited.name(), "NOTAWAITED");
         assert_eq!(Refusal::NoPacket.name(), "NOPACKET");
+        assert_eq!(Refusal::Surplus.name(), "SURPLUS");
     }
 }

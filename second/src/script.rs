@@ -585,6 +585,8 @@ mod tests {
         let over_8 = [JUDGE, 1, 0x96, 0x8C, 7, 8, 9, 10, 11, 12, 13, 14];
         assert_eq!(last(&[&over_8]), [5, 0, 3, 0, 1, 2, 22, 1, 0, 0, 0, 7]);
         assert_eq!(last(&[&over_8[..11]]), [4, 0, 4, 0]);
+        let long = [JUDGE, 1, 0x96, 0xE2, 7, 8, 9];
+        assert_eq!(last(&[&long]), [4, 0, 25, 0]);
         assert_eq!(last(&[&[JUDGE, 0]]), [4, 0, 1, 0]);
     }
 

@@ -122,7 +122,8 @@ impl Station {
         }
     }
 
-    /// The frame of an image, if nothing up to PIECE refuses the call.
+    /// The frame of an image, if nothing up to PIECE, SURPLUS included, refuses
+    /// the call.
     fn admit<'a>(&self, bus: u8, image: &'a [u8], store: &[u8]) -> Result<Frame<'a>, Refusal> {
         self.check(store)?;
         if !is_bus(bus) {
@@ -341,6 +342,32 @@ mod tests {
                     assert!(run.store[size..].iter().all(|&byte| byte == 0xAA));
                 }
             }
+        }
+    }
+
+    #[test]
+    fn an_image_too_short_or_too_long_between_pieces_changes_nothing() {
+        for key in [extended(0, 1, 1), standard(0, 1)] {
+            let mut run = Run::new(&[key]);
+            let packet = packet(20, 1);
+            for k in 0..=2 {
+                // The next piece but for its length, and a single.
+                for image in [piece(&key.fields, &packet, k), piece(&key.fields, &[7], 0)] {
+                    let before = (run.station, run.store.clone());
+                    let short = &image[..image.len() - 1];
+                    assert_eq!(run.receive(0, short), refused(Refusal::Count));
+                    let header = key.fields.format().header_size();
+                    for length in image.len() + 1..=header + 8 {
+                        let mut long = image.clone();
+                        long.resize(length, 0x77);
+                        assert_eq!(run.receive(0, &long), refused(Refusal::Surplus));
+                    }
+                    assert_eq!((run.station, &run.store), (before.0, &before.1));
+                }
+                let answer = run.receive_piece(&key, &packet, k);
+                assert_eq!(answer, if k < 2 { KEPT } else { whole(20) });
+            }
+            assert_eq!(run.read(0), (Ok(20), &packet[..]));
         }
     }
 

@@ -8,6 +8,7 @@ const STORE: u32 = 0x8000_000D;
 const FIELD: u32 = 0x8000_0009;
 const LENGTH: u32 = 0x8000_0001;
 const COUNT: u32 = 0x8000_0004;
+const SURPLUS: u32 = 0x8000_0019;
 const CLOSED: u32 = 0x8000_0010;
 const NOPACKET: u32 = 0x8000_0011;
 
@@ -69,6 +70,10 @@ fn a_code_over_8_is_received_as_8() {
         let idle = station.clone();
         let short = &image[..image.len() - 1];
         assert_eq!(receive(&mut station, &mut store, 0, short), COUNT);
+        // With a code of 7 in the place of 12 the image is too long.
+        let mut long = image.to_vec();
+        long[format] ^= 0x0C ^ 0x07;
+        assert_eq!(receive(&mut station, &mut store, 0, &long), SURPLUS);
         assert_eq!((&station, store[0]), (&idle, 0xAA));
         assert_eq!(receive(&mut station, &mut store, 0, image), 0x0004_0008);
         assert_eq!(store[..9], [1, 2, 3, 4, 5, 6, 7, 8, 0xAA]);
