@@ -5,10 +5,11 @@ use second::format::{Format, MAX_COUNT};
 use crate::random::Random;
 
 /// What can be wrong with an image; "fixed bits wrong" in extended only.
-pub const CORRUPTIONS: [&str; 10] = [
+pub const CORRUPTIONS: [&str; 11] = [
     "bits flipped",
     "count wrong",
-    "count code over 8, data cut",
+    "data cut off",
+    "data left behind",
     "RTR set",
     "flag wrong",
     "number wrong",
@@ -43,13 +44,14 @@ pub fn corrupt(
     match way {
         0 => flip_bits(image, random),
         1 => wrong_count(image, format, random),
-        2 => raise_and_cut(image, format, random),
-        3 => set_remote(image, format),
-        4 => change_flag(image, format, random),
-        5 => change_number(image, format, random),
-        6 => change_length(image, longest, random),
-        7 => shorten(image, format, random),
-        8 => *image = random_bytes(longest, random),
+        2 => cut_off(image, format, random),
+        3 => leave_behind(image, format, longest, random),
+        4 => set_remote(image, format),
+        5 => change_flag(image, format, random),
+        6 => change_number(image, format, random),
+        7 => change_length(image, longest, random),
+        8 => shorten(image, format, random),
+        9 => *image = random_bytes(longest, random),
         _ => break_fixed_bits(image, random),
     }
     CORRUPTIONS[way]
@@ -98,10 +100,39 @@ fn wrong_count(image: &mut [u8], format: Format, random: &mut Random) {
     set_code(image, format, random.pick(&wrong));
 }
 
-/// Gives a code over 8 and leaves fewer than eight data bytes.
-fn raise_and_cut(image: &mut Vec<u8>, format: Format, random: &mut Random) {
-    image.truncate(format.header_size() + random.below(MAX_COUNT));
-    set_code(image, format, any_code_over_8(random));
+/// Gives any code and fewer data bytes than it stands for, often one fewer.
+fn cut_off(image: &mut Vec<u8>, format: Format, random: &mut Random) {
+    let code = random.within(1, 15);
+    let count = code.min(MAX_COUNT);
+    let missing = one_or_more(count, random);
+    resize_data(image, format, count - missing, random);
+    set_code(image, format, code);
+}
+
+/// Gives any code and more data bytes than it stands for, often one more: up to eight in all, but nine after a code that
+/// stands for eight, if an image may be that long.
+fn leave_behind(image: &mut Vec<u8>, format: Format, longest: usize, random: &mut Random) {
+    let room = longest > format.header_size() + MAX_COUNT;
+    let code = random.within(0, if room { 15 } else { MAX_COUNT - 1 });
+    let count = code.min(MAX_COUNT);
+    let surplus = one_or_more((MAX_COUNT - count).max(1), random);
+    resize_data(image, format, count + surplus, random);
+    set_code(image, format, code);
+}
+
+/// One, half of the time; else any number up to the most.
+fn one_or_more(most: usize, random: &mut Random) -> usize {
+    match random.chance(500) {
+        true => 1,
+        false => random.within(1, most),
+    }
+}
+
+/// Cuts data bytes off, or adds any.
+fn resize_data(image: &mut Vec<u8>, format: Format, size: usize, random: &mut Random) {
+    let length = format.header_size() + size;
+    image.truncate(length);
+    image.extend(random.bytes(length - image.len()));
 }
 
 fn flip_bits(image: &mut [u8], random: &mut Random) {
@@ -180,6 +211,7 @@ mod tests {
     use second::frame::{judge, Flag};
     use second::refusal::Refusal;
     use second::split::{image, piece};
+    use std::collections::HashMap;
 
     /// A piece of a packet of twenty bytes, damaged.
     fn damaged(format: Format, longest: usize, random: &mut Random) -> (Vec<u8>, &'static str) {
@@ -204,6 +236,7 @@ mod tests {
                 Refusal::Length,
                 Refusal::Remote,
                 Refusal::Count,
+                Refusal::Surplus,
                 Refusal::Piece,
             ];
             for refusal in others.into_iter().chain(form) {
@@ -243,40 +276,88 @@ mod tests {
         }
     }
 
+    /// The count code of an image, and how many data bytes there are more than it stands for.
+    fn code_and_surplus(format: Format, image: &[u8]) -> (usize, isize) {
+        let code = usize::from(image[count_byte(format)] & 0x0F);
+        let size = image.len() - format.header_size();
+        (code, size as isize - code.min(8) as isize)
+    }
+
     #[test]
     fn wrong_counts_are_refused_with_codes_over_8_among_them() {
         let mut random = Random::new(3);
         for format in FORMATS {
-            for flag in FLAGS {
-                for size in 1..=8 {
-                    let mut over = 0;
-                    for _ in 0..100 {
-                        let mut image = any_image(format, flag, size, &mut random);
-                        wrong_count(&mut image, format, &mut random);
-                        assert_eq!(judge(format, &image), Err(Refusal::Count));
-                        over += usize::from(is_over_8(&image, format));
-                    }
-                    // Before eight data bytes they are sound.
-                    assert_eq!(over > 20, size < 8, "{over}");
+            for (flag, size) in FLAGS.into_iter().flat_map(|f| (1..=8).map(move |s| (f, s))) {
+                let (mut over, mut long) = (0, 0);
+                for _ in 0..100 {
+                    let mut image = any_image(format, flag, size, &mut random);
+                    wrong_count(&mut image, format, &mut random);
+                    let is_long = code_and_surplus(format, &image).1 > 0;
+                    let refusal = [Refusal::Count, Refusal::Surplus][usize::from(is_long)];
+                    assert_eq!(judge(format, &image), Err(refusal));
+                    over += usize::from(is_over_8(&image, format));
+                    long += usize::from(is_long);
                 }
+                // Before eight data bytes they are sound, and every smaller count is too small.
+                assert_eq!(over > 20, size < 8, "{over}");
+                assert!(long > 0 && (long == 100) == (size == 8), "{long}");
             }
         }
     }
 
-    #[test]
-    fn codes_over_8_before_less_data_are_refused() {
+    /// How often a way of damage makes each code with each surplus, of pieces of every flag and size. Each image has to
+    /// be refused for that.
+    fn made(
+        format: Format,
+        way: impl Fn(&mut Vec<u8>, &mut Random),
+    ) -> HashMap<(usize, isize), usize> {
         let mut random = Random::new(4);
+        let mut made = HashMap::new();
+        for _ in 0..4000 {
+            let (flag, size) = (random.pick(&FLAGS), random.within(0, 8));
+            let mut image = any_image(format, flag, size, &mut random);
+            way(&mut image, &mut random);
+            let (code, surplus) = code_and_surplus(format, &image);
+            let refusal = match surplus {
+                1 if code >= 8 => Refusal::Length,
+                1.. => Refusal::Surplus,
+                _ => Refusal::Count,
+            };
+            assert_eq!(judge(format, &image), Err(refusal));
+            *made.entry((code, surplus)).or_insert(0) += 1;
+        }
+        made
+    }
+
+    #[test]
+    fn data_is_cut_off_after_every_code() {
         for format in FORMATS {
-            for flag in FLAGS {
-                let mut sizes = [false; 8];
-                for _ in 0..300 {
-                    let mut image = any_image(format, flag, 8, &mut random);
-                    raise_and_cut(&mut image, format, &mut random);
-                    assert!(is_over_8(&image, format));
-                    assert_eq!(judge(format, &image), Err(Refusal::Count));
-                    sizes[image.len() - format.header_size()] = true;
+            let made = made(format, |image, random| cut_off(image, format, random));
+            for code in 1..=15 {
+                let most = code.min(8) as isize;
+                assert!(made[&(code, -1)] > 100, "{code}");
+                assert!((1..=most).all(|missing| made.contains_key(&(code, -missing))));
+            }
+            assert!(made.keys().all(|&(_, surplus)| surplus < 0));
+        }
+    }
+
+    #[test]
+    fn data_is_left_behind_after_every_code() {
+        for format in FORMATS {
+            let full = format.header_size() + 8;
+            for (longest, highest) in [(full, 7), (full + 1, 15)] {
+                let leave = |image: &mut Vec<u8>, random: &mut Random| {
+                    leave_behind(image, format, longest, random);
+                    assert!(image.len() <= longest);
+                };
+                let made = made(format, leave);
+                for code in 0..=highest {
+                    let most = 8_isize.saturating_sub(code as isize).max(1);
+                    assert!(made[&(code, 1)] > 100, "{code}");
+                    assert!((1..=most).all(|surplus| made.contains_key(&(code, surplus))));
                 }
-                assert_eq!(sizes, [true; 8]);
+                assert!(made.keys().all(|&(_, surplus)| surplus > 0));
             }
         }
     }

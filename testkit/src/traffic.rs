@@ -459,24 +459,25 @@ mod tests {
     }
 
     #[test]
-    fn noise_has_codes_over_8_sound_and_refused() {
+    fn noise_has_images_too_short_and_too_long_and_codes_over_8() {
         for format in FORMATS {
             let mut traffic = traffic(format, 5, Sizes::Short, Noise::even(50));
-            let (mut sound, mut count, mut piece) = (0, 0, 0);
-            for _ in 0..20_000 {
+            let mut judged = Vec::new();
+            for _ in 0..40_000 {
                 let image = traffic.next_frame().image;
-                match judge(format, &image) {
-                    _ if !is_over_8(&image, format) => {}
-                    Ok(_) => sound += 1,
-                    Err(Refusal::Count) => count += 1,
-                    Err(Refusal::Piece) => piece += 1,
-                    Err(_) => {}
-                }
+                judged.push((is_over_8(&image, format), judge(format, &image).err()));
             }
-            assert!(
-                sound > 100 && count > 20 && piece > 5,
-                "{sound} {count} {piece}"
-            );
+            for (over_8, refusal, least) in [
+                (false, Some(Refusal::Count), 100),
+                (false, Some(Refusal::Surplus), 200),
+                (true, None, 200),
+                (true, Some(Refusal::Count), 200),
+                (true, Some(Refusal::Piece), 10),
+            ] {
+                let is = |own: &&(bool, Option<Refusal>)| **own == (over_8, refusal);
+                let times = judged.iter().filter(is).count();
+                assert!(times >= least, "{format:?} {over_8} {refusal:?} {times}");
+            }
         }
     }
 
