@@ -67,6 +67,7 @@ fn received(format: Format) -> Vec<String> {
         Refusal::Length,
         Refusal::Remote,
         Refusal::Count,
+        Refusal::Surplus,
         Refusal::Piece,
         Refusal::Orphan,
         Refusal::Step,

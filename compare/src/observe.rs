@@ -16,6 +16,7 @@ pub fn answers() -> Vec<String> {
         Refusal::Orphan,
         Refusal::Step,
         Refusal::Long,
+        Refusal::Surplus,
     ];
     let taken = taken.into_iter().map(String::from);
     taken.chain(refusals.map(refused)).collect()

@@ -185,7 +185,8 @@ pub fn answer(response: &[u8]) -> String {
     }
 }
 
-/// What an image can be judged to be once its count is looked at.
+/// What an image with a count code of 9 to 15 can be judged to be once its count is looked at. None is too long for it:
+/// nine data bytes are refused before.
 pub const BY_COUNT: [&str; 3] = ["sound", "refused 4", "refused 5"];
 
 /// What the answer to an image that is judged or received says of the image, in words: "sound", or its refusal.
@@ -258,5 +259,6 @@ mod tests {
             assert_eq!(sound, of_sound, "{refusal:?}");
         }
         assert_eq!(judged(&[4, 0, 4, 0]), "refused 4");
+        assert_eq!(judged(&[4, 0, 25, 0]), "refused 25");
     }
 }
