@@ -142,8 +142,8 @@ EDITS = {
             "let count = match byte & 0b1111 { 15 => 7, code => code.min(MAX_COUNT as u8) };",
         ),
         ("(byte & 0b1111).min(MAX_COUNT as u8)", "(byte & 0b1111)"),
-        ("return Err(Refusal::Count); } Ok(count)", "return Err(Refusal::Count); } Ok(byte & 0b1111)"),
-        ("usize::from(count) != data.len()", "byte & 0b1111 <= 8 && usize::from(count) != data.len()"),
+        ("Ordering::Equal => Ok(count)", "Ordering::Equal => Ok(byte & 0b1111)"),
+        ("Ordering::Less => Err", "Ordering::Less if byte & 0b1111 > 8 => Ok(count), Ordering::Less => Err"),
         (
             "let count = judge_count(header[0], data)?;",
             "let count = judge_count(header[0], data)?; if header[0] & 0b1111 > 8 { return Err(Refusal::Count); }",
@@ -156,6 +156,44 @@ EDITS = {
             " let count = judge_count(header[0], data)?; let flag",
             " if header[0] & 0b1111 > 8 && header[3] >> 6 == 1 && header[3] & 0b11_1111 != 0"
             " { return Err(Refusal::Piece); } let count = judge_count(header[0], data)?; let flag",
+        ),
+        # L4: too short is 4, too long is 25, in the same place of the order.
+        ("Ordering::Greater => Err(Refusal::Surplus)", "Ordering::Greater => Err(Refusal::Count)"),
+        ("Ordering::Less => Err(Refusal::Count)", "Ordering::Less => Err(Refusal::Surplus)"),
+        ("match data.len().cmp(&usize::from(count))", "match usize::from(count).cmp(&data.len())"),
+        ("Ordering::Greater => Err(Refusal::Surplus)", "Ordering::Greater => Ok(count)"),
+        (
+            "Ordering::Less => Err(Refusal::Count)",
+            "Ordering::Less if byte & 0b1111 > 8 => Err(Refusal::Surplus), Ordering::Less => Err(Refusal::Count)",
+        ),
+        (
+            "Ordering::Greater => Err(Refusal::Surplus)",
+            "Ordering::Greater if count == 0 => Err(Refusal::Count), Ordering::Greater => Err(Refusal::Surplus)",
+        ),
+        (
+            "Ordering::Greater => Err(Refusal::Surplus)",
+            "Ordering::Greater if data.len() == usize::from(count) + 1 => Err(Refusal::Count),"
+            " Ordering::Greater => Err(Refusal::Surplus)",
+        ),
+        (
+            "Ordering::Greater => Err(Refusal::Surplus)",
+            "Ordering::Greater if data.len() > usize::from(count) + 1 => Err(Refusal::Count),"
+            " Ordering::Greater => Err(Refusal::Surplus)",
+        ),
+        (
+            " if header[0] & 0b0100_0000 != 0 { return Err(Refusal::Remote); } let count = judge_count(header[0], data)?;",
+            " let count = judge_count(header[0], data)?; if header[0] & 0b0100_0000 != 0 { return Err(Refusal::Remote); }",
+        ),
+        # Too long means a count under 8, which a start or a middle may not have: 25 after 5.
+        (
+            "let count = judge_count(header[0], data)?;",
+            "let count = match judge_count(header[0], data) {"
+            " Err(Refusal::Surplus) if header[3] >> 6 < 2 => return Err(Refusal::Piece), count => count? };",
+        ),
+        (
+            "let count = judge_count(header[1], data)?;",
+            "let count = match judge_count(header[1], data) {"
+            " Err(Refusal::Surplus) if header[1] >> 5 & 3 < 2 => return Err(Refusal::Piece), count => count? };",
         ),
     ],
     "split.rs": [

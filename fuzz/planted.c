@@ -1,7 +1,8 @@
 /*
  * Faults planted in calls of the library, one at a time, by the name in PLANTED. fuzz/run links them in by --wrap, to
  * see that each is told: a read one byte behind a row, by valgrind; the same through memcpy, which AddressSanitizer
- * watches; and a wrong answer, a wrong byte, a wrong number and a wrong byte of the store, by fuzz/replay.c.
+ * watches; and by fuzz/replay.c a wrong answer, a wrong byte, a wrong number, a wrong byte of the store, images too short
+ * and too long taken for each other, and the bytes behind an image left unread.
  */
 #include <stdlib.h>
 #include <string.h>
@@ -12,6 +13,8 @@
     result __real_siljuvatt_##call arguments;                                                                          \
     result __wrap_siljuvatt_##call arguments;                                                                          \
     result __wrap_siljuvatt_##call arguments
+
+#define REFUSED(refusal) (UINT32_C(0x80000000) | (refusal))
 
 static volatile uint8_t last;
 
@@ -58,7 +61,12 @@ WRAPPED(uint32_t, receive,
          const uint8_t *image, size_t image_length))
 {
     uint32_t answer = __real_siljuvatt_receive(station, station_length, store, store_length, bus, image, image_length);
+    const uint32_t too_short = REFUSED(SILJUVATT_REFUSAL_COUNT), too_long = REFUSED(SILJUVATT_REFUSAL_SURPLUS);
 
+    while (planted("behind") && answer == too_long)
+        answer = __real_siljuvatt_receive(station, station_length, store, store_length, bus, image, --image_length);
+    if (planted("exchanged") && (answer == too_short || answer == too_long))
+        answer ^= too_short ^ too_long;
     if (store_length != 0)
         store[store_length - 1] |= planted("store");
     return answer;

@@ -5,7 +5,8 @@ use std::io::Sink;
 use std::process::Command;
 use std::{env, ptr, slice};
 
-use second::interface::{self, MASTER_SIZE, SEND, STATION_SIZE};
+use second::interface::{self, refused, KEPT, MASTER_SIZE, SEND, STATION_SIZE};
+use second::refusal::Refusal;
 use second::station::STORE_SIZE;
 use second::stream::AREA_SIZE;
 use siljuvatt::raw::Argument;
@@ -225,6 +226,22 @@ fn an_answer_that_differs_in_any_bit() {
         noticed("filter_accepts", |_, answer| answer ^ 128),
         Difference::Answer { .. }
     ));
+}
+
+#[test]
+fn images_too_short_and_too_long_taken_for_each_other_or_for_sound() {
+    let (short, long) = (refused(Refusal::Count), refused(Refusal::Surplus));
+    for (right, wrong) in [(short, long), (long, short), (long, KEPT << 16)] {
+        let difference = noticed("receive", move |_, answer| match answer == right {
+            true => wrong,
+            false => answer,
+        });
+        let expected = Difference::Answer {
+            expected: right,
+            got: wrong,
+        };
+        assert_eq!(difference, expected);
+    }
 }
 
 /// Every function that is lent a buffer, with the names of those.

@@ -137,6 +137,7 @@ const RECEIVE_CASES: Cases = Cases {
         (Refusal::Form, EXTENDED),
         (Refusal::Remote, BOTH),
         (Refusal::Count, BOTH),
+        (Refusal::Surplus, BOTH),
         (Refusal::Piece, BOTH),
         (Refusal::Orphan, BOTH),
         (Refusal::Step, BOTH),
@@ -550,6 +551,8 @@ mod tests {
     fn an_empty_tally_lacks_every_case() {
         let faults = Tally::new().faults();
         assert!(faults.contains(&"never came up: receive 8 LONG extended".into()));
+        assert!(faults.contains(&"never came up: receive 25 SURPLUS extended".into()));
+        assert!(faults.contains(&"never came up: receive 25 SURPLUS standard".into()));
         assert!(faults.contains(&"never came up: master_start command on B -".into()));
         assert!(faults.contains(&"never came up: station set: key open twice".into()));
         assert!(faults.iter().all(|fault| !fault.contains("LONG standard")));
