@@ -206,10 +206,11 @@ pub fn judge(format: Format, image: &[u8]) -> Verdict
     let code = l.code;
     let count = data_count(code);
     let said = wide(count);
-    if n - header < said {
-        return Verdict::Refused(Refusal::Count);
-    }
-    if n - header > said {
+    // Most lengths are right: one test for them, and a second for which way one is wrong.
+    if n - header != said {
+        if n - header < said {
+            return Verdict::Refused(Refusal::Count);
+        }
         return Verdict::Refused(Refusal::Surplus);
     }
     let flag = l.flag;

@@ -53,15 +53,14 @@ wide-requires c κs = search needs
 
 returns-5 : tie.Need-returns-5
 returns-5 c =
-    let c1 = c .before in
-    let c3 = c1 .before .before in
-    let c4 = c3 .before in
-    let c6 = c4 .before .before in
-    let c9 = c6 .before .before .before in
-    let c11 = c9 .before .before in
-    let a = c11 .args in
-    fewer (a .format) (a .image .now) _ (c6 .layout-of .ensures) _ (c9 .header-size .ensures) (omega arith)
-    (omega arith) (c4 .if3 .left) (c3 .if4 .left) _ (c1 .before .data-count .ensures) _ (c1 .wide .ensures) (omega arith)
+    let c2 = c .before .before in
+    let c4 = c2 .before .before in
+    let c5 = c4 .before in
+    let c7 = c5 .before .before in
+    let c10 = c7 .before .before .before in
+    let a = c10 .before .before .args in
+    fewer (a .format) (a .image .now) _ (c7 .layout-of .ensures) _ (c10 .header-size .ensures) (omega arith) (omega arith)
+    (c5 .if3 .left) (c4 .if4 .left) _ (c2 .before .data-count .ensures) _ (c2 .wide .ensures) (omega arith)
 
 returns-6 : tie.Need-returns-6
 returns-6 c =
@@ -79,18 +78,18 @@ piece-rule-requires c κs = search needs
 
 -- what is known after the piece rule
 ruled : (c : tie.After-piece-rule)
-    → let l = c .before .before .before .before .before .before .before .before in
+    → let l = c .before .before .before .before .before .before .before in
     let a = l .before .before .before .before .before .args in
     ByRule (a .format) (a .image .now) (l .layout-of .result) (c .piece-rule .result)
 ruled c =
-    let c3 = c .before .before .before in
-    let c5 = c3 .before .before in
-    let c6 = c5 .before in
-    let c8 = c6 .before .before in
-    let c11 = c8 .before .before .before in
-    let a = c11 .before .before .args in
-    by-rule (a .format) (a .image .now) _ (c8 .layout-of .ensures) _ (c11 .header-size .ensures) (omega arith) (omega arith)
-    (c6 .if3 .left) (c5 .if4 .left) _ (c3 .before .data-count .ensures) _ (c3 .wide .ensures) (omega arith) (omega arith) _
+    let c2 = c .before .before in
+    let c4 = c2 .before .before in
+    let c5 = c4 .before in
+    let c7 = c5 .before .before in
+    let c10 = c7 .before .before .before in
+    let a = c10 .before .before .args in
+    by-rule (a .format) (a .image .now) _ (c7 .layout-of .ensures) _ (c10 .header-size .ensures) (omega arith) (omega arith)
+    (c5 .if3 .left) (c4 .if4 .left) _ (c2 .before .data-count .ensures) _ (c2 .wide .ensures) (omega arith) (omega arith) _
     (c .piece-rule .ensures)
 
 returns-7 : tie.Need-returns-7
