@@ -11,7 +11,7 @@ use Rattle.format.specs.declared.Format.{Format}
 use Rattle.format.specs.declared.Refusal.the-variants.{Length, Form, Remote, Count, Surplus, Piece}
 use Rattle.format.specs.Tests.{allTrue}
 use Rattle.format.specs.Formats.{headerSize}
-use Rattle.format.specs.Refusals.{Result, value, refused, check, guarded}
+use Rattle.format.specs.Refusals.{Result, value, refused, Check, check, guarded}
 use Rattle.format.proofs.Tests.{each}
 use Rattle.format.proofs.Checks.{stop, pass, none-left, Passed}
 use Rattle.frame.specs.declared.Layout.{Layout}
@@ -64,6 +64,16 @@ pub record ByRule (format : Format) (image : List ℕ) (said : Layout) (rule : B
   pub broken : not rule ≡ true → refused 5 ≡ judge format image
   pub kept : not rule ≡ false → value (readBy said image) ≡ judge format image
 
+-- what the number of data bytes decides, once LENGTH, FORM and REMOTE have passed: fewer than the count says, more, or as many
+pub record ByLength (format : Format) (image : List ℕ) (said : Layout) (count data′ wide : ℕ) : Type 0 where
+  pub fewer : data′ < wide → refused 4 ≡ judge format image
+  pub more : wide < data′ → refused 25 ≡ judge format image
+  pub exact : data′ ≡ wide → (rule : Bool) → rule ≡ pieceRule format (said .flag) count (said .number) → ByRule format image said rule
+
+-- the last check
+abbrev ruling : Format → Layout → List Check
+ruling format said = check Piece (pieceRule format (said .flag) (dataCount (said .code)) (said .number)) ∷ []
+
 -- header, number of data bytes and layout, as the code has them
 module _ (format : Format) (image : List ℕ) (said : Layout) (e : said ≡ layout format image) (header : ℕ) (eh : header ≡ headerSize format) where
   judged : {r : Result Judged} → r ≡ guarded (checks format (length image) said) (readBy said image) → r ≡ judge format image
@@ -106,41 +116,41 @@ module _ (format : Format) (image : List ℕ) (said : Layout) (e : said ≡ layo
 
         -- the count that `judge` has read from the count code, and the same as a length
         module _ (count : ℕ) (ec : count ≡ dataCount (said .code)) (wide : ℕ) (ew : wide ≡ count) where
-          pub fewer : length image - header < wide → refused 4 ≡ judge format image
+          fewer : length image - header < wide → refused 4 ≡ judge format image
           unfolding checks
           fewer n =
               let m : length image < headerSize format + count = omega arith in
               judged (pass Length _ _ sized (pass Form _ _ f (pass Remote _ _ r (stop Count _ _ (rw (← ec) (lt-leb _ _ m))))))
 
-          module _ (enough : wide ≤ length image - header) where
-            not-fewer : leb (headerSize format + dataCount (said .code)) (length image) ≡ true
-            not-fewer = let m : headerSize format + count ≤ length image = omega arith in rw (← ec) (le-leb _ _ m)
+          -- the checks before SURPLUS
+          to-the-length : {x : Result Judged} → wide ≤ length image - header
+              → x ≡ guarded (check Surplus (leb (length image) (headerSize format + dataCount (said .code))) ∷ ruling format said) (readBy said image)
+              → x ≡ judge format image
+          unfolding checks
+          to-the-length n left =
+              let m : headerSize format + count ≤ length image = omega arith in
+              judged (pass Length _ _ sized (pass Form _ _ f (pass Remote _ _ r (pass Count _ _ (rw (← ec) (le-leb _ _ m)) left))))
 
-            pub more : wide < length image - header → refused 25 ≡ judge format image
-            unfolding checks
-            more n =
-                let m : headerSize format + count < length image = omega arith in
-                judged
-                (pass Length _ _ sized
-                (pass Form _ _ f (pass Remote _ _ r (pass Count _ _ not-fewer (stop Surplus _ _ (rw (← ec) (lt-leb _ _ m)))))))
+          more : wide < length image - header → refused 25 ≡ judge format image
+          more n =
+              let m : headerSize format + count < length image = omega arith in
+              to-the-length (omega arith) (stop Surplus _ _ (rw (← ec) (lt-leb _ _ m)))
 
-            module _ (n : length image - header ≤ wide) (rule : Bool) (er : rule ≡ pieceRule format (said .flag) count (said .number)) where
-              not-more : leb (length image) (headerSize format + dataCount (said .code)) ≡ true
-              not-more = let m : length image ≤ headerSize format + count = omega arith in rw (← ec) (le-leb _ _ m)
+          -- the checks before PIECE
+          to-the-rule : {x : Result Judged} → length image - header ≡ wide → x ≡ guarded (ruling format said) (readBy said image)
+              → x ≡ judge format image
+          to-the-rule n left =
+              let m : length image ≤ headerSize format + count = omega arith in
+              to-the-length (omega arith) (pass Surplus _ _ (rw (← ec) (le-leb _ _ m)) left)
 
-              -- every check but the last
-              to-the-rule : {r : Result Judged}
-                  → r ≡ guarded (check Piece (pieceRule format (said .flag) (dataCount (said .code)) (said .number)) ∷ []) (readBy said image)
-                  → r ≡ judge format image
-              unfolding checks
-              to-the-rule h =
-                  judged
-                  (pass Length _ _ sized
-                  (pass Form _ _ f (pass Remote _ _ r (pass Count _ _ not-fewer (pass Surplus _ _ not-more h)))))
-
-              pub by-rule : ByRule format image said rule
-              by-rule =
-                  record {
-                    broken = λ p. to-the-rule (stop Piece _ _ (rw (← ec) (sym er ∙ not-true rule p)));
-                    kept = λ p. to-the-rule (pass Piece _ _ (rw (← ec) (sym er ∙ not-false rule p)) (none-left _));
-                  }
+          pub by-length : ByLength format image said count (length image - header) wide
+          by-length =
+              record {
+                fewer = fewer;
+                more = more;
+                exact = λ n rule er.
+                    record {
+                      broken = λ p. to-the-rule n (stop Piece _ _ (rw (← ec) (sym er ∙ not-true rule p)));
+                      kept = λ p. to-the-rule n (pass Piece _ _ (rw (← ec) (sym er ∙ not-false rule p)) (none-left _));
+                    };
+              }

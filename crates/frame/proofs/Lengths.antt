@@ -20,7 +20,7 @@ use Rattle.frame.specs.Layout.{layout}
 use Rattle.frame.specs.Judge.{dataCount, checks, judge}
 use Rattle.frame.specs.Image.{countCode}
 use Rattle.frame.specs.Claims.{PassesThree, Exactly, WhichWay}
-use Rattle.frame.proofs.JudgeLaws.{fewer, more}
+use Rattle.frame.proofs.JudgeLaws.{ByLength, by-length}
 
 module _ (format : Format) (image : List ℕ) where
   abbrev said : Layout
@@ -67,17 +67,17 @@ module _ (format : Format) (image : List ℕ) where
       )
       _ n e
 
+  refusals : PassesThree format image
+      → ByLength format image said (dataCount (said .code)) (length image - headerSize format) (dataCount (said .code))
+  refusals p =
+      by-length format image said refl (headerSize format) refl (p .least) (omega (arith, p .most)) (ap not (p .formed))
+      (ap (λ n. not (eqb n 0)) (p .data-frame)) _ refl _ refl
+
   short-refused : PassesThree format image → length image < expected → judge format image ≡ refused (number Count)
-  short-refused p h =
-      sym
-      (fewer format image said refl (headerSize format) refl (p .least) (omega (arith, p .most)) (ap not (p .formed))
-      (ap (λ n. not (eqb n 0)) (p .data-frame)) _ refl _ refl (omega (arith, h, p .least)))
+  short-refused p h = sym (refusals p .fewer (omega (arith, h, p .least)))
 
   long-refused : PassesThree format image → expected < length image → judge format image ≡ refused (number Surplus)
-  long-refused p h =
-      sym
-      (more format image said refl (headerSize format) refl (p .least) (omega (arith, p .most)) (ap not (p .formed))
-      (ap (λ n. not (eqb n 0)) (p .data-frame)) _ refl _ refl (omega (arith, h, p .least)) (omega (arith, h, p .least)))
+  long-refused p h = sym (refusals p .more (omega (arith, h)))
 
 pub which-way : WhichWay
 which-way =

@@ -1,8 +1,10 @@
 -- `frame::judge` meets its contract: each return is the first check that fails (JudgeLaws), or all hold.
 use borrow.Author.Needs.{needs}
+use Prim.Native.Nat.{_-_}
 use mathlib.Core.Path.{refl}
 use native.Mathlib.Omega.{arith}
-use Rattle.frame.proofs.JudgeLaws.{too-short, too-long, misformed, remote, fewer, more, ByRule, by-rule}
+use lib.ListN.{length}
+use Rattle.frame.proofs.JudgeLaws.{too-short, too-long, misformed, remote, ByRule, ByLength, by-length}
 use Rattle.frame.proofs.judge.Statement.{statement}
 use Rattle.frame.proofs.judge.Tie as tie
 
@@ -51,46 +53,38 @@ data-count-requires c κs = search needs
 wide-requires : tie.Need-wide-requires
 wide-requires c κs = search needs
 
-returns-5 : tie.Need-returns-5
-returns-5 c =
+-- what is known once the count is read
+measured : (c : tie.After-wide)
+    → let l = c .before .before .before .before .before in
+    let h = l .before .before .before in
+    let a = h .before .before .args in
+    ByLength (a .format) (a .image .now) (l .layout-of .result) (c .before .data-count .result)
+    (length (a .image .now) - h .header-size .result)
+    (c .wide .result)
+measured c =
     let c2 = c .before .before in
-    let c4 = c2 .before .before in
-    let c5 = c4 .before in
-    let c7 = c5 .before .before in
-    let c10 = c7 .before .before .before in
-    let a = c10 .before .before .args in
-    fewer (a .format) (a .image .now) _ (c7 .layout-of .ensures) _ (c10 .header-size .ensures) (omega arith) (omega arith)
-    (c5 .if3 .left) (c4 .if4 .left) _ (c2 .before .data-count .ensures) _ (c2 .wide .ensures) (omega arith)
+    let c3 = c2 .before in
+    let c5 = c3 .before .before in
+    let c8 = c5 .before .before .before in
+    let a = c8 .before .before .args in
+    by-length (a .format) (a .image .now) _ (c5 .layout-of .ensures) _ (c8 .header-size .ensures) (omega arith) (omega arith)
+    (c3 .if3 .left) (c2 .if4 .left) _ (c .before .data-count .ensures) _ (c .wide .ensures)
+
+returns-5 : tie.Need-returns-5
+returns-5 c = measured (c .before .before) .fewer (omega arith)
 
 returns-6 : tie.Need-returns-6
-returns-6 c =
-    let c2 = c .before .before in
-    let c4 = c2 .before .before in
-    let c5 = c4 .before in
-    let c7 = c5 .before .before in
-    let c10 = c7 .before .before .before in
-    let a = c10 .before .before .args in
-    more (a .format) (a .image .now) _ (c7 .layout-of .ensures) _ (c10 .header-size .ensures) (omega arith) (omega arith)
-    (c5 .if3 .left) (c4 .if4 .left) _ (c2 .before .data-count .ensures) _ (c2 .wide .ensures) (omega arith) (omega arith)
+returns-6 c = measured (c .before .before) .more (omega arith)
 
 piece-rule-requires : tie.Need-piece-rule-requires
 piece-rule-requires c κs = search needs
 
--- what is known after the piece rule
+-- and after the piece rule
 ruled : (c : tie.After-piece-rule)
     → let l = c .before .before .before .before .before .before .before in
     let a = l .before .before .before .before .before .args in
     ByRule (a .format) (a .image .now) (l .layout-of .result) (c .piece-rule .result)
-ruled c =
-    let c2 = c .before .before in
-    let c4 = c2 .before .before in
-    let c5 = c4 .before in
-    let c7 = c5 .before .before in
-    let c10 = c7 .before .before .before in
-    let a = c10 .before .before .args in
-    by-rule (a .format) (a .image .now) _ (c7 .layout-of .ensures) _ (c10 .header-size .ensures) (omega arith) (omega arith)
-    (c5 .if3 .left) (c4 .if4 .left) _ (c2 .before .data-count .ensures) _ (c2 .wide .ensures) (omega arith) (omega arith) _
-    (c .piece-rule .ensures)
+ruled c = measured (c .before .before) .exact (omega arith) _ (c .piece-rule .ensures)
 
 returns-7 : tie.Need-returns-7
 returns-7 c = ruled (c .before) .broken (c .if7 .taken)
