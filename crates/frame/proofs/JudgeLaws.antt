@@ -70,9 +70,12 @@ pub record ByLength (format : Format) (image : List ℕ) (said : Layout) (count 
   pub more : wide < data′ → refused 25 ≡ judge format image
   pub exact : data′ ≡ wide → (rule : Bool) → rule ≡ pieceRule format (said .flag) count (said .number) → ByRule format image said rule
 
--- the last check
+-- the last check, and the last two
 abbrev ruling : Format → Layout → List Check
 ruling format said = check Piece (pieceRule format (said .flag) (dataCount (said .code)) (said .number)) ∷ []
+
+abbrev bounding : Format → (size : ℕ) → Layout → List Check
+bounding format size said = check Surplus (leb size (headerSize format + dataCount (said .code))) ∷ ruling format said
 
 -- header, number of data bytes and layout, as the code has them
 module _ (format : Format) (image : List ℕ) (said : Layout) (e : said ≡ layout format image) (header : ℕ) (eh : header ≡ headerSize format) where
@@ -124,8 +127,7 @@ module _ (format : Format) (image : List ℕ) (said : Layout) (e : said ≡ layo
 
           -- the checks before SURPLUS
           to-the-length : {x : Result Judged} → wide ≤ length image - header
-              → x ≡ guarded (check Surplus (leb (length image) (headerSize format + dataCount (said .code))) ∷ ruling format said) (readBy said image)
-              → x ≡ judge format image
+              → x ≡ guarded (bounding format (length image) said) (readBy said image) → x ≡ judge format image
           unfolding checks
           to-the-length n left =
               let m : headerSize format + count ≤ length image = omega arith in
