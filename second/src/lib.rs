@@ -1,4 +1,4 @@
-//! The receiving and sending rules of document 01, with L3 of document 02,
+//! The receiving and sending rules of document 01, with L3 and L4 of document 02,
 //! written a second time and in plain form, so that two programs can be
 //! compared answer by answer.
 //!

@@ -106,7 +106,7 @@ frame-in-range format image bytes judged e =
 
 -- ---- an image that is refused
 
--- n is one of the numbers of LENGTH, FORM, REMOTE, COUNT, SURPLUS and PIECE, so none of a stream's refusals
+-- n is the number of a refusal, and none of a stream's
 pub record JudgingRefusal (n : ℕ) : Type 0 where
   pub name : Refusal
   pub is : n ≡ number name

@@ -82,6 +82,12 @@ module _ (format : Format) (image : List ℕ) where
 pub which-way : WhichWay
 which-way =
     record {
-      short = λ format image. record { only = λ e. found format image _ e .0 refl; always = short-refused format image };
-      long = λ format image. record { only = λ e. found format image _ e .1 refl; always = long-refused format image };
+      short = λ format image. record {
+        only = λ e. let f = found format image _ e .0 refl in (f .0, omega (arith, f .1));
+        always = short-refused format image;
+      };
+      long = λ format image. record {
+        only = λ e. let f = found format image _ e .1 refl in (f .0, omega (arith, f .1));
+        always = long-refused format image;
+      };
     }

@@ -1,5 +1,5 @@
--- What is proved of frame images, in both formats; proofs/Images.antt, proofs/CountCodes.antt and, of the last claim,
--- proofs/Verdicts.antt have the proofs.
+-- What is proved of frame images, in both formats. Proofs: proofs/Images.antt, proofs/CountCodes.antt (`CodesAlike`), proofs/Lengths.antt
+-- (`WhichWay`), proofs/Verdicts.antt (`OneVerdict`).
 use Prim.Native.Nat.{ℕ, _+_, _≤_, _<_}
 use mathlib.Core.Path.{_≡_}
 use mathlib.Core.Logic.{_≢_}

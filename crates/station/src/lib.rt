@@ -223,7 +223,8 @@ impl Station {
     }
 
     // Receives an image on a bus; the store is lent. Answers packet and its length, kept, filtered
-    // or a refusal: STATE, STORE, FIELD, LENGTH, FORM, REMOTE, COUNT, PIECE, ORPHAN, STEP, LONG.
+    // or a refusal: STATE, STORE, FIELD, LENGTH, FORM, REMOTE, COUNT, SURPLUS, PIECE, ORPHAN, STEP,
+    // LONG.
     pub fn receive(mut self, store: &mut [u8], bus: u8, image: &[u8]) -> Received
         ensures { λ r. ⌜ after r (now (store .exit)) ≡ receive self (now (store .entry)) bus (now (image .entry)) ⌝ }
     {

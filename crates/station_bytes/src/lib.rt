@@ -258,8 +258,7 @@ fn step_at(
     next.answer
 }
 
-// Receives an image on a bus, as Station::receive does. Answers packet and its length, kept, filtered
-// or a refusal: STATE, STORE, FIELD, LENGTH, FORM, REMOTE, COUNT, PIECE, ORPHAN, STEP, LONG.
+// Receives an image on a bus, as Station::receive does, with the same answers.
 pub fn receive(state: &mut [u8], store: &mut [u8], bus: u8, image: &[u8]) -> Answer
     ensures { λ r. ⌜ bytesAfter r (now (state .exit)) (now (store .exit)) ≡ receiveIn (now (state .entry)) (now (store .entry)) bus (now (image .entry)) ⌝ }
 {

@@ -1,6 +1,6 @@
 //! The calls of the library for C, over bytes and numbers, with its answers.
 //!
-//! Written from the library's header and document 01, with L3 of document 02,
+//! Written from the library's header and document 01, with L3 and L4 of document 02,
 //! so that the library can be compared with it call by call. Where C has a pointer and a length there
 //! is a slice here.
 
