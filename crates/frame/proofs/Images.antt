@@ -155,43 +155,6 @@ number-small : (b : Bool) (n : ℕ) → n < 256 → cond b n 0 < 256
 number-small true n h = h
 number-small false n h = omega arith
 
-module _ (image : List ℕ) (small : Bytes image) (p : Passing format.Extended (length image) (layout format.Extended image)) where
-  extended-image : IsImage format.Extended image (readBy (layout format.Extended image) image)
-  unfolding layout imageOf headerBytes soundFrame inRange
-  extended-image =
-      let b0 = getD image 0 0 in
-      let b1 = getD image 1 0 in
-      let b2 = getD image 2 0 in
-      let b3 = getD image 3 0 in
-      let b4 = getD image 4 0 in
-      let s1 : b1 < 256 = small 1 in
-      let s2 : b2 < 256 = small 2 in
-      let s3 : b3 < 256 = small 3 in
-      let s4 : b4 < 256 = small 4 in
-      let least : 5 ≤ length image = p .least in
-      let fixed = each _ (p .formed) in
-      let counted : length image ≡ 5 + dataCount (b0 % 16) = p .counted in
-      let count : length (drop 5 image) ≡ dataCount (b0 % 16) = rw length-drop (omega tests) in
-      let one : b0 / 64 / 2 ≡ 1 = div-div-eq-div-mul b0 64 2 ∙ eqb-true _ _ (fixed .0) in
-      let top : b0 / 64 ≡ 2 = sym (div-add-mod' (b0 / 64) 2) ∙ (λ i. one i * 2 + p .data-frame i) in
-      let quarter : b0 / 16 / 4 ≡ b0 / 64 = div-div-eq-div-mul b0 16 4 in
-      let zeros : b0 / 16 % 4 ≡ 0 = eqb-true _ _ (fixed .1 .0) in
-      let mid : b0 / 16 ≡ 8 = sym (div-add-mod' (b0 / 16) 4) ∙ (λ i. (quarter ∙ top) i * 4 + zeros i) in
-      let e0 : 128 + b0 % 16 ≡ b0 = omega tests in
-      let e1 : 64 * (b1 / 64) + b1 % 64 ≡ b1 = omega tests in
-      let e2 : 64 * (b2 / 64) + b2 % 64 ≡ b2 = omega tests in
-      let bits : flagBits (flagOf (b3 / 64)) ≡ b3 / 64 = bits-of-flag (b3 / 64) (omega tests) in
-      let e3 : 64 * flagBits (flagOf (b3 / 64)) + b3 % 64 ≡ b3 = rw bits (omega tests) in
-      let e4 : 8 * (b4 / 8) ≡ b4 = omega tests in
-      record {
-        whole = (λ i. e0 i ∷ e1 i ∷ e2 i ∷ e3 i ∷ e4 i ∷ drop 5 image) ∙ sym (five image (omega tests));
-        code = rw count (code-for (b0 % 16) (omega arith));
-        sound = from-each _ (from-each _ (omega tests), (omega tests, (rw count (p .rule), tt)));
-        of-format = refl;
-        starts = omega tests;
-        carries = refl;
-      }
-
 -- the data bytes of a standard piece that keeps its rule are its number, if it has one among them, and its packet bytes
 data-back : (flag : Flag) (image : List ℕ) (number : ℕ) → 2 ≤ length image → pieceRule format.Standard flag (length image - 2) number ≡ true
     → cond (numbered format.Standard flag) (cond (numbered format.Standard flag) (getD image 2 0) 0 ∷ drop (packetStart format.Standard flag) image) (drop (packetStart format.Standard flag) image)
@@ -209,39 +172,73 @@ start-back Start size number h r = let u = each _ r in omega tests
 start-back Middle size number h r = let u = each _ r in omega tests
 start-back End size number h r = let u = each _ r in omega tests
 
-module _ (image : List ℕ) (small : Bytes image) (p : Passing format.Standard (length image) (layout format.Standard image)) where
-  standard-image : IsImage format.Standard image (readBy (layout format.Standard image) image)
-  unfolding layout imageOf headerBytes soundFrame inRange
-  standard-image =
-      let b0 = getD image 0 0 in
-      let b1 = getD image 1 0 in
-      let b2 = getD image 2 0 in
-      let flag = flagOf (b1 / 32 % 4) in
-      let n = cond (numbered format.Standard flag) b2 0 in
-      let s0 : b0 < 256 = small 0 in
-      let s1 : b1 < 256 = small 1 in
-      let s2 : b2 < 256 = small 2 in
-      let least : 2 ≤ length image = p .least in
-      let remote : b1 / 16 % 2 ≡ 0 = p .data-frame in
-      let counted : length image ≡ 2 + dataCount (b1 % 16) = p .counted in
-      let count : length image - 2 ≡ dataCount (b1 % 16) = omega tests in
-      let rule : pieceRule format.Standard flag (length image - 2) n ≡ true = rw count (p .rule) in
-      let back = data-back flag image n (omega tests) rule in
-      let whole : length (cond (numbered format.Standard flag) (n ∷ drop (packetStart format.Standard flag) image) (drop (packetStart format.Standard flag) image)) ≡ length image - 2 =
-      ap length back ∙ length-drop 2 image in
-      let half : b1 / 16 / 2 ≡ b1 / 32 = div-div-eq-div-mul b1 16 2 in
-      let quarter : b1 / 32 / 4 ≡ b1 / 128 = div-div-eq-div-mul b1 32 4 in
-      let bits : flagBits flag ≡ b1 / 32 % 4 = bits-of-flag (b1 / 32 % 4) (omega tests) in
-      let e0 : 64 * (b0 / 64) + b0 % 64 ≡ b0 = omega tests in
-      let e1 : 128 * (b1 / 128) + 32 * flagBits flag + b1 % 16 ≡ b1 = rw bits (omega tests) in
-      record {
-        whole = (λ i. e0 i ∷ e1 i ∷ back i) ∙ sym (two image (omega tests));
-        code = rw (whole, count) (code-for (b1 % 16) (omega arith));
-        sound = from-each _ (from-each _ (omega tests), (lt-ltb _ _ (number-small (numbered format.Standard flag) b2 s2), (rw whole rule, tt)));
-        of-format = refl;
-        starts = start-back flag (length image) n (omega tests) rule;
-        carries = refl;
-      }
+-- an image that passes every check is its frame's but for its code
+is-image : (fm : Format) (image : List ℕ) → Bytes image → Passing fm (length image) (layout fm image)
+    → IsImage fm image (readBy (layout fm image) image)
+unfolding layout imageOf headerBytes soundFrame inRange
+is-image format.Extended image small p =
+    let b0 = getD image 0 0 in
+    let b1 = getD image 1 0 in
+    let b2 = getD image 2 0 in
+    let b3 = getD image 3 0 in
+    let b4 = getD image 4 0 in
+    let s1 : b1 < 256 = small 1 in
+    let s2 : b2 < 256 = small 2 in
+    let s3 : b3 < 256 = small 3 in
+    let s4 : b4 < 256 = small 4 in
+    let least : 5 ≤ length image = p .least in
+    let fixed = each _ (p .formed) in
+    let counted : length image ≡ 5 + dataCount (b0 % 16) = p .counted in
+    let count : length (drop 5 image) ≡ dataCount (b0 % 16) = rw length-drop (omega tests) in
+    let one : b0 / 64 / 2 ≡ 1 = div-div-eq-div-mul b0 64 2 ∙ eqb-true _ _ (fixed .0) in
+    let top : b0 / 64 ≡ 2 = sym (div-add-mod' (b0 / 64) 2) ∙ (λ i. one i * 2 + p .data-frame i) in
+    let quarter : b0 / 16 / 4 ≡ b0 / 64 = div-div-eq-div-mul b0 16 4 in
+    let zeros : b0 / 16 % 4 ≡ 0 = eqb-true _ _ (fixed .1 .0) in
+    let mid : b0 / 16 ≡ 8 = sym (div-add-mod' (b0 / 16) 4) ∙ (λ i. (quarter ∙ top) i * 4 + zeros i) in
+    let e0 : 128 + b0 % 16 ≡ b0 = omega tests in
+    let e1 : 64 * (b1 / 64) + b1 % 64 ≡ b1 = omega tests in
+    let e2 : 64 * (b2 / 64) + b2 % 64 ≡ b2 = omega tests in
+    let bits : flagBits (flagOf (b3 / 64)) ≡ b3 / 64 = bits-of-flag (b3 / 64) (omega tests) in
+    let e3 : 64 * flagBits (flagOf (b3 / 64)) + b3 % 64 ≡ b3 = rw bits (omega tests) in
+    let e4 : 8 * (b4 / 8) ≡ b4 = omega tests in
+    record {
+      whole = (λ i. e0 i ∷ e1 i ∷ e2 i ∷ e3 i ∷ e4 i ∷ drop 5 image) ∙ sym (five image (omega tests));
+      code = rw count (code-for (b0 % 16) (omega arith));
+      sound = from-each _ (from-each _ (omega tests), (omega tests, (rw count (p .rule), tt)));
+      of-format = refl;
+      starts = omega tests;
+      carries = refl;
+    }
+is-image format.Standard image small p =
+    let b0 = getD image 0 0 in
+    let b1 = getD image 1 0 in
+    let b2 = getD image 2 0 in
+    let flag = flagOf (b1 / 32 % 4) in
+    let n = cond (numbered format.Standard flag) b2 0 in
+    let s0 : b0 < 256 = small 0 in
+    let s1 : b1 < 256 = small 1 in
+    let s2 : b2 < 256 = small 2 in
+    let least : 2 ≤ length image = p .least in
+    let remote : b1 / 16 % 2 ≡ 0 = p .data-frame in
+    let counted : length image ≡ 2 + dataCount (b1 % 16) = p .counted in
+    let count : length image - 2 ≡ dataCount (b1 % 16) = omega tests in
+    let rule : pieceRule format.Standard flag (length image - 2) n ≡ true = rw count (p .rule) in
+    let back = data-back flag image n (omega tests) rule in
+    let whole : length (cond (numbered format.Standard flag) (n ∷ drop (packetStart format.Standard flag) image) (drop (packetStart format.Standard flag) image)) ≡ length image - 2 =
+    ap length back ∙ length-drop 2 image in
+    let half : b1 / 16 / 2 ≡ b1 / 32 = div-div-eq-div-mul b1 16 2 in
+    let quarter : b1 / 32 / 4 ≡ b1 / 128 = div-div-eq-div-mul b1 32 4 in
+    let bits : flagBits flag ≡ b1 / 32 % 4 = bits-of-flag (b1 / 32 % 4) (omega tests) in
+    let e0 : 64 * (b0 / 64) + b0 % 64 ≡ b0 = omega tests in
+    let e1 : 128 * (b1 / 128) + 32 * flagBits flag + b1 % 16 ≡ b1 = rw bits (omega tests) in
+    record {
+      whole = (λ i. e0 i ∷ e1 i ∷ back i) ∙ sym (two image (omega tests));
+      code = rw (whole, count) (code-for (b1 % 16) (omega arith));
+      sound = from-each _ (from-each _ (omega tests), (lt-ltb _ _ (number-small (numbered format.Standard flag) b2 s2), (rw whole rule, tt)));
+      of-format = refl;
+      starts = start-back flag (length image) n (omega tests) rule;
+      carries = refl;
+    }
 
 -- ---- the claims
 
@@ -258,10 +255,6 @@ image-is-judged frame s = go (frame .fields) s
         })
     go (Extended priority source group destination function) t = of-extended priority source group destination function (frame .flag) (frame .number) (frame .bytes) t
     go (Standard priority address side) t = of-standard priority address side (frame .flag) (frame .number) (frame .bytes) t
-
-is-image : (fm : Format) (image : List ℕ) → Bytes image → Passing fm (length image) (layout fm image) → IsImage fm image (readBy (layout fm image) image)
-is-image format.Extended image small p = extended-image image small p
-is-image format.Standard image small p = standard-image image small p
 
 pub judged-is-image : JudgedIsImage
 unfolding JudgedIsImage judge

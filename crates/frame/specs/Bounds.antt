@@ -1,7 +1,7 @@
 -- Document 01, "Frame images" and the piece rules: every end of every range, from both sides, the order of refusals 1 to 5, and what
 -- stands where; and document 02, L3: what each count code says, and L4: COUNT for an image too short, SURPLUS for one too long. The figures
 -- are literals, so that one changed alike in a definition and in the code breaks the claim. proofs/Bounds.antt proves it.
-use Prim.Native.Nat.{ℕ, _+_}
+use Prim.Native.Nat.{ℕ, suc, _+_, _*_}
 use mathlib.Core.Path.{_≡_}
 use mathlib.Core.Bool.{Bool, true, false}
 use mathlib.Core.List.{List, [], _∷_, _++_}
@@ -90,10 +90,6 @@ imageTable =
     ∷ judges Extended (extended 0x80 0xC0 0x10 0) 0
     ∷ judges Extended (extended 0x88 0xC0 0x10 8) 0
     ∷ judges Extended (extended 0x89 0xC0 0x10 9) 1
-    -- length not header plus count: one less, one more (L4: SURPLUS); and just that
-    ∷ judges Extended (extended 0x81 0xC0 0x10 0) 4
-    ∷ judges Extended (extended 0x87 0xC0 0x10 8) 25
-    ∷ judges Extended (extended 0x87 0xC0 0x10 7) 0
     -- each fixed bit
     ∷ judges Extended (extended 0x01 0xC0 0x10 1) 2
     ∷ judges Extended (extended 0xA1 0xC0 0x10 1) 2
@@ -121,9 +117,7 @@ imageTable =
     ∷ judges Standard (0x96 ∷ 0xE0 ∷ []) 0
     ∷ judges Standard (standard 0xE8 7 7) 0
     ∷ judges Standard (standard 0xE9 7 8) 1
-    ∷ judges Standard (0x96 ∷ 0xE1 ∷ []) 4
-    ∷ judges Standard (standard 0xE7 7 7) 25
-    ∷ judges Standard (standard 0xE7 7 6) 0
+    -- RTR, and pieces
     ∷ judges Standard (standard 0xF1 7 0) 3
     ∷ judges Standard (standard 0xA8 0 7) 0
     ∷ judges Standard (standard 0xA8 1 7) 5
@@ -137,54 +131,52 @@ imageTable =
     ∷ judges Standard (standard 0xC2 1 0) 4
     ∷ []
 
--- a single by its count code and the number of its data bytes
-abbrev pub coded : Format → (code size : ℕ) → List ℕ
-coded Extended code size = extended (0x80 + code) 0xC0 0x10 size
-coded Standard code size = 0x96 ∷ (0xE0 + code) ∷ replicate size 7
+-- a piece by its flag's bits, its count code and the number of its data bytes, all of them 7
+abbrev pub codedPiece : Format → (flag code size : ℕ) → List ℕ
+codedPiece Extended flag code size = extended (0x80 + code) (0x40 * flag) 0x10 size
+codedPiece Standard flag code size = 0x96 ∷ (0x80 + 0x20 * flag + code) ∷ replicate size 7
 
--- document 02, L4, in either format: an image one byte short for its count, exact, and one byte long
-abbrev pub lengthRows : Format → List Bound
-lengthRows format =
-    -- count 0: one byte short has no whole header, LENGTH above
-    judges format (coded format 0 0) 0
-    ∷ judges format (coded format 0 1) 25
-    ∷ judges format (coded format 1 0) 4
-    ∷ judges format (coded format 1 1) 0
-    ∷ judges format (coded format 1 2) 25
-    ∷ judges format (coded format 7 6) 4
-    ∷ judges format (coded format 7 7) 0
-    ∷ judges format (coded format 7 8) 25
-    -- count 8, and codes 9 and 15, which say 8: one byte long is LENGTH
-    ∷ judges format (coded format 8 7) 4
-    ∷ judges format (coded format 8 8) 0
-    ∷ judges format (coded format 8 9) 1
-    ∷ judges format (coded format 9 7) 4
-    ∷ judges format (coded format 9 8) 0
-    ∷ judges format (coded format 9 9) 1
-    ∷ judges format (coded format 15 7) 4
-    ∷ judges format (coded format 15 8) 0
-    ∷ judges format (coded format 15 9) 1
-    -- eight bytes short, and eight long
-    ∷ judges format (coded format 8 0) 4
-    ∷ judges format (coded format 15 0) 4
-    ∷ judges format (coded format 0 8) 25
-    ∷ []
+-- document 02, L4: the number that a single is refused with, 0 if it is sound, by its count code (a row for each of 0 to 15; by L3 all from
+-- 8 on say eight) and its data bytes (0 to 9): COUNT for an image too short, SURPLUS for one too long, LENGTH for nine data bytes
+abbrev pub lengthTable : List (List ℕ)
+lengthTable =
+    (0 ∷ 25 ∷ 25 ∷ 25 ∷ 25 ∷ 25 ∷ 25 ∷ 25 ∷ 25 ∷ 1 ∷ [])
+    ∷ (4 ∷ 0 ∷ 25 ∷ 25 ∷ 25 ∷ 25 ∷ 25 ∷ 25 ∷ 25 ∷ 1 ∷ [])
+    ∷ (4 ∷ 4 ∷ 0 ∷ 25 ∷ 25 ∷ 25 ∷ 25 ∷ 25 ∷ 25 ∷ 1 ∷ [])
+    ∷ (4 ∷ 4 ∷ 4 ∷ 0 ∷ 25 ∷ 25 ∷ 25 ∷ 25 ∷ 25 ∷ 1 ∷ [])
+    ∷ (4 ∷ 4 ∷ 4 ∷ 4 ∷ 0 ∷ 25 ∷ 25 ∷ 25 ∷ 25 ∷ 1 ∷ [])
+    ∷ (4 ∷ 4 ∷ 4 ∷ 4 ∷ 4 ∷ 0 ∷ 25 ∷ 25 ∷ 25 ∷ 1 ∷ [])
+    ∷ (4 ∷ 4 ∷ 4 ∷ 4 ∷ 4 ∷ 4 ∷ 0 ∷ 25 ∷ 25 ∷ 1 ∷ [])
+    ∷ (4 ∷ 4 ∷ 4 ∷ 4 ∷ 4 ∷ 4 ∷ 4 ∷ 0 ∷ 25 ∷ 1 ∷ [])
+    ∷ replicate 8 (4 ∷ 4 ∷ 4 ∷ 4 ∷ 4 ∷ 4 ∷ 4 ∷ 4 ∷ 0 ∷ 1 ∷ [])
 
--- "at the same place in the order": two refusals apply. FORM before SURPLUS, REMOTE before SURPLUS, SURPLUS before PIECE
+-- the examples of one row, from so many data bytes on; and of all rows, from a count code on
+abbrev pub lengthRow : Format → (code size : ℕ) → List ℕ → List Bound
+lengthRow format code size [] = []
+lengthRow format code size (n ∷ ns) = judges format (codedPiece format 0b11 code size) n ∷ lengthRow format code (suc size) ns
+
+abbrev pub lengthRows : Format → (code : ℕ) → List (List ℕ) → List Bound
+lengthRows format code [] = []
+lengthRows format code (row ∷ rows) = lengthRow format code 0 row ++ lengthRows format (suc code) rows
+
+-- "at the same place in the order", where two refusals apply: SURPLUS before PIECE, a start, a middle and an end
+abbrev pub orderRows : Format → List Bound
+orderRows format =
+    judges format (codedPiece format 0b01 7 8) 25 ∷ judges format (codedPiece format 0b00 7 8) 25 ∷ judges format (codedPiece format 0b10 0 1) 25 ∷ []
+
+-- and an extended single; FORM and REMOTE before SURPLUS
 abbrev pub lengthOrder : List Bound
 lengthOrder =
-    judges Extended (extended 0x91 0xC0 0x10 2) 2
+    judges Extended (extended 0x81 0xC1 0x10 2) 25
+    ∷ judges Extended (extended 0x91 0xC0 0x10 2) 2
     ∷ judges Extended (extended 0x81 0xC0 0x11 2) 2
     ∷ judges Extended (extended 0xC1 0xC0 0x10 2) 3
-    ∷ judges Extended (extended 0x81 0xC1 0x10 2) 25
-    ∷ judges Extended (extended 0x87 0x40 0x10 8) 25
-    ∷ judges Extended (extended 0x87 0x3F 0x10 8) 25
-    ∷ judges Extended (extended 0x80 0xBF 0x10 1) 25
     ∷ judges Standard (standard 0xF1 7 1) 3
-    ∷ judges Standard (standard 0xA7 0 7) 25
-    ∷ judges Standard (standard 0x87 1 7) 25
-    ∷ judges Standard (standard 0xC1 2 1) 25
     ∷ []
+
+-- in both formats
+abbrev pub inBoth : (Format → List Bound) → List Bound
+inBoth rows = rows Extended ++ rows Standard
 
 -- each row with each of the count codes 8 to 15
 abbrev pub forCodes : List (ℕ → Bound) → List Bound
@@ -195,32 +187,24 @@ forCodes (row ∷ rows) = row 8 ∷ row 9 ∷ row 10 ∷ row 11 ∷ row 12 ∷ r
 abbrev pub codeTable : List Bound
 codeTable =
     forCodes
-    -- extended: sound before eight data bytes, a piece of each flag; COUNT before seven and before none
-    ((λ code. judges Extended (extended (0x80 + code) 0xC0 0x10 8) 0)
-    ∷ (λ code. judges Extended (extended (0x80 + code) 0x40 0x10 8) 0)
+    -- extended: a start, a middle and an end are sound before eight data bytes; singles stand in `lengthTable`
+    ((λ code. judges Extended (extended (0x80 + code) 0x40 0x10 8) 0)
     ∷ (λ code. judges Extended (extended (0x80 + code) 0x3F 0x10 8) 0)
     ∷ (λ code. judges Extended (extended (0x80 + code) 0xBF 0x10 8) 0)
-    ∷ (λ code. judges Extended (extended (0x80 + code) 0xC0 0x10 7) 4)
-    ∷ (λ code. judges Extended (extended (0x80 + code) 0xC0 0x10 0) 4)
-    -- a piece rule broken; LENGTH, FORM and REMOTE come before COUNT, and COUNT before PIECE
+    -- a piece rule broken; FORM and REMOTE come before COUNT, and COUNT before PIECE
     ∷ (λ code. judges Extended (extended (0x80 + code) 0xC1 0x10 8) 5)
     ∷ (λ code. judges Extended (extended (0x80 + code) 0x41 0x10 8) 5)
-    ∷ (λ code. judges Extended (extended (0x80 + code) 0xC0 0x10 9) 1)
     ∷ (λ code. judges Extended (extended (0x90 + code) 0xC0 0x10 7) 2)
     ∷ (λ code. judges Extended (extended (0x80 + code) 0xC0 0x11 7) 2)
     ∷ (λ code. judges Extended (extended (0xC0 + code) 0xC0 0x10 7) 3)
     ∷ (λ code. judges Extended (extended (0x80 + code) 0x41 0x10 7) 4)
     -- standard: the same, where the eight data bytes include the number
-    ∷ (λ code. judges Standard (standard (0xE0 + code) 7 7) 0)
     ∷ (λ code. judges Standard (standard (0xA0 + code) 0 7) 0)
     ∷ (λ code. judges Standard (standard (0x80 + code) 254 7) 0)
     ∷ (λ code. judges Standard (standard (0xC0 + code) 255 7) 0)
-    ∷ (λ code. judges Standard (standard (0xE0 + code) 7 6) 4)
-    ∷ (λ code. judges Standard (0x96 ∷ (0xE0 + code) ∷ []) 4)
     ∷ (λ code. judges Standard (standard (0xA0 + code) 1 7) 5)
     ∷ (λ code. judges Standard (standard (0x80 + code) 255 7) 5)
     ∷ (λ code. judges Standard (standard (0xC0 + code) 0 7) 5)
-    ∷ (λ code. judges Standard (standard (0xE0 + code) 7 8) 1)
     ∷ (λ code. judges Standard (standard (0xF0 + code) 7 6) 3)
     ∷ (λ code. judges Standard (standard (0xA0 + code) 1 6) 4)
     ∷ [])
@@ -258,7 +242,10 @@ Holds (judges format image n) = refusalOf (judge format image) ≡ n
 Holds (reads format image judged) = judge format image ≡ value judged
 
 abbrev pub table : List Bound
-table = pieceTable ++ (imageTable ++ (lengthRows Extended ++ (lengthRows Standard ++ (lengthOrder ++ (codeTable ++ layoutTable)))))
+table =
+    pieceTable
+    ++ (imageTable
+    ++ (inBoth (λ format. lengthRows format 0 lengthTable) ++ (inBoth orderRows ++ (lengthOrder ++ (codeTable ++ layoutTable)))))
 
 unfoldable pub JudgingBounds : Type 0
 JudgingBounds = AllHold Holds table
