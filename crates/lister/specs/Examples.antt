@@ -125,8 +125,8 @@ atBounds =
     ∷ "5 A refused 4"
     ∷ "records 5"
     ∷ []))
-    -- document 02, L4: "the listing treat[s] 25 as 4". Images too long and too short for their counts, between the pieces of a packet: each
-    -- shows record, bus and refusal only, and the packet is whole
+    -- document 02, L4: "Demand 3 and the listing treat 25 as 4." Images too long and too short for their counts, between the pieces of a
+    -- packet: each shows record, bus and refusal only, and the packet is whole
     ∷ row (coded 0x0F 0x88 0x40 8
     ++ (coded 0x0F 0x87 0x01 8
     ++ (coded 0x0E 0x88 0x01 7 ++ (coded 0x0F 0x88 0x01 8 ++ (coded 0x09 0x81 0x82 2 ++ coded 0x08 0x81 0x82 1)))))

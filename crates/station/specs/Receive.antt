@@ -1,6 +1,6 @@
 -- Document 01, "Streams and receiving": receiving an image on a bus. "On a frame of its key" a stream steps; "A frame with no
--- open key answers "filtered" and changes nothing." "Refusal numbers", order: 21, 13, 9, then for images 1 to 8; "Nothing is
--- written and the state handed back is the one handed in, except the idle slot after 7 and 8."
+-- open key answers "filtered" and changes nothing." "Refusal numbers", order: 21, 13, 9, then for images 1 to 8, and 25 where 4
+-- stands (document 02, L4); "Nothing is written and the state handed back is the one handed in, except the idle slot after 7 and 8."
 use Prim.Native.Nat.{ℕ}
 use mathlib.Core.Bool.{cond}
 use mathlib.Core.List.{List, [], _∷_}

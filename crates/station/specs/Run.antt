@@ -38,8 +38,8 @@ runOn front station store (call ∷ calls) =
 abbrev pub run : Station → List ℕ → List Call → Ran
 run station store calls = runOn receive station store calls
 
--- "Its frames are the images received on its key's bus, with its key's fields, that 1 to 5 and 9 don't refuse"; document 02, L4:
--- "Demand 3 [..] treat[s] 25 as 4", so nor does 25. x is added in front of xs if the examined image is a frame of the key
+-- "Its frames are the images received on its key's bus, with its key's fields, that 1 to 5 and 9 don't refuse", nor 25 (document
+-- 02, L4: "Demand 3 and the listing treat 25 as 4"): x is added in front of xs if the examined image is a frame of the key
 unfoldable pub addIfOf : {A : Type 0} → Key → (bus : ℕ) → Result Judged → (Frame → A) → List A → List A
 addIfOf key bus (refused n) x xs = xs
 addIfOf key bus (value judged) x xs = cond (sameKey key (keyOf bus (judged .frame))) (x (judged .frame) ∷ xs) xs

@@ -1,6 +1,7 @@
 -- Document 01, the listing program: "It prints the header, one line a record, and the count. Fields are decimal, bus A or B; after the
 -- count field comes the answer: packet and length, kept, filtered, or refused and number; "broke" last. An image refused by 1 to 5 shows
--- record, bus and refusal only." Of a damaged record "it prints its number and "stopped"". Document 02, L4: "the listing treat[s] 25 as 4".
+-- record, bus and refusal only." Of a damaged record "it prints its number and "stopped"". Document 02, L4: "Demand 3 and the
+-- listing treat 25 as 4."
 use Prim.Native.Nat.{ℕ, zero, suc, _+_, _/_, _%_}
 use Prim.Native.Char.{code}
 use Prim.Native.String as text
