@@ -1,18 +1,16 @@
 -- What an image has that is judged sound, and which refusals judging gives: by name, for proofs of other crates.
 use Prim.Native.Nat.{ℕ, _+_, _-_, _≤_, _<_}
 use mathlib.Core.Path.{_≡_, refl}
-use mathlib.Core.Logic.{_≢_}
-use mathlib.Core.Bool.{true}
-use mathlib.Core.List.{List}
-use native.Mathlib.Omega.{arith}
+use mathlib.Core.Bool.{Bool, true}
+use mathlib.Core.List.{List, [], _∷_, map}
 use lib.ListN.{length, drop, length-drop}
 use borrow.Author.Tests.{ltb-true}
 use Rattle.format.specs.declared.Format.{Format}
 use Rattle.format.specs.declared.Format.the-variants.{Extended, Standard}
 use Rattle.format.specs.declared.Flag.{Flag}
 use Rattle.format.specs.declared.Flag.the-variants.{Middle, Start, End, Single}
-use Rattle.format.specs.declared.Refusal.{Refusal}
-use Rattle.format.specs.declared.Refusal.the-variants.{Length, Form, Remote, Count, Surplus, Piece, Orphan, Step, Long}
+use Rattle.format.specs.declared.Refusal.the-variants.{Length, Form, Remote, Count, Surplus, Piece}
+use Rattle.format.specs.Tests.{allTrue}
 use Rattle.format.specs.Formats.{headerSize, numberRange, packetStart, formatOf, inRange}
 use Rattle.format.specs.Refusals.{Result, value, refused, number}
 use Rattle.format.proofs.Tests.{each, tests}
@@ -106,30 +104,17 @@ frame-in-range format image bytes judged e =
 
 -- ---- an image that is refused
 
--- n is the number of a refusal, and none of a stream's
-pub record JudgingRefusal (n : ℕ) : Type 0 where
-  pub name : Refusal
-  pub is : n ≡ number name
-  pub not-orphan : n ≢ number Orphan
-  pub not-step : n ≢ number Step
-  pub not-long : n ≢ number Long
+abbrev judgingNumbers : List ℕ
+judgingNumbers = map number (Length ∷ Form ∷ Remote ∷ Count ∷ Surplus ∷ Piece ∷ [])
 
--- one of the names, by its number
-named : (name : Refusal) → (number name ≢ number Orphan) × ((number name ≢ number Step) × (number name ≢ number Long))
-    → JudgingRefusal (number name)
-named name h = record { name = name; is = refl; not-orphan = h .0; not-step = h .1 .0; not-long = h .1 .1 }
+-- n is one of these numbers: it passes each test that they all pass
+abbrev pub JudgingRefusal : ℕ → Type 0
+JudgingRefusal n = (test : ℕ → Bool) → allTrue (map test judgingNumbers) ≡ true → test n ≡ true
 
 pub judging-refusal : (format : Format) (image : List ℕ) (n : ℕ) → judge format image ≡ refused n → JudgingRefusal n
 unfolding judge checks
-judging-refusal format image n e =
-    refused-by JudgingRefusal (checks format (length image) (layout format image)) (
-      named Length (omega arith),
-      (
-        named Form (omega arith),
-        (named Remote (omega arith), (named Count (omega arith), (named Surplus (omega arith), (named Piece (omega arith), tt)))),
-      ),
-    )
-    _ n e
+judging-refusal format image n e test all =
+    refused-by (λ m. test m ≡ true) (checks format (length image) (layout format image)) (each _ all) _ n e
 
 -- ---- either
 

@@ -1,5 +1,5 @@
 -- Which way a length is wrong: COUNT exactly for an image too short for its count, SURPLUS exactly for one too long.
-use Prim.Native.Nat.{ℕ, _+_, _-_, _≤_, _<_}
+use Prim.Native.Nat.{ℕ, _+_, _-_, _<_}
 use mathlib.Core.Path.{_≡_, refl, sym, ap}
 use mathlib.Core.Logic.{_≢_}
 use mathlib.Core.Bool.{true, not}
@@ -7,7 +7,7 @@ use mathlib.Core.List.{List, [], _∷_}
 use native.Mathlib.Omega.{arith}
 use lib.Dec.{leb, eqb}
 use lib.ListN.{length}
-use borrow.Author.Tests.{leb-true, leb-false, eqb-true, eq-eqb}
+use borrow.Author.Tests.{leb-true, leb-false, eqb-true}
 use Rattle.format.specs.declared.Format.{Format}
 use Rattle.format.specs.declared.Refusal.the-variants.{Count, Surplus}
 use Rattle.format.specs.Tests.{allTrue}
@@ -19,7 +19,7 @@ use Rattle.frame.specs.declared.Layout.{Layout}
 use Rattle.frame.specs.Layout.{layout}
 use Rattle.frame.specs.Judge.{dataCount, checks, judge}
 use Rattle.frame.specs.Image.{countCode}
-use Rattle.frame.specs.Claims.{PassesThree, Exactly, WhichWay}
+use Rattle.frame.specs.Claims.{PassesThree, WhichWay}
 use Rattle.frame.proofs.JudgeLaws.{ByLength, by-length}
 
 module _ (format : Format) (image : List ℕ) where

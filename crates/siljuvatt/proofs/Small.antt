@@ -71,10 +71,11 @@ all-bytes : allTrue (map aByte numbers) ≡ true
 unfolding allTrue allAfter
 all-bytes = refl
 
+byte-within : (n : ℕ) → aByte n ≡ true → (1 ≤ n) × (n ≤ 255)
+byte-within n e = let tests = each (leb 1 n ∷ leb n 255 ∷ []) e in (leb-true _ _ (tests .0), leb-true _ _ (tests .1 .0))
+
 a-refusal : (name : Refusal) → (1 ≤ number name) × (number name ≤ 255)
-a-refusal name =
-    let tests = each (leb 1 (number name) ∷ leb (number name) 255 ∷ []) (each-number aByte all-bytes name) in
-    (leb-true _ _ (tests .0), leb-true _ _ (tests .1 .0))
+a-refusal name = byte-within (number name) (each-number aByte all-bytes name)
 
 -- its value where every check holds, or a refusal
 by-checks : {A : Type 0} (P : Result A → Type 0) (list : List Check) (x : A) → (Passed list → P (value x))
@@ -235,10 +236,11 @@ judged-small station store bus (refused n) h = h
 judged-small station store bus (value judged) c = deliver-small station store _ (judged .frame) c
 
 judge-within : (format : Format) (image : List ℕ) → Within (λ j. Carrying format (j .frame)) (judge format image)
+unfolding allTrue allAfter
 judge-within format image =
     by-judging (Within (λ (j : Judged). Carrying format (j .frame))) format image
     (judged-carries format image)
-    (λ n r. rw (r .is) (a-refusal (r .name)))
+    (λ n r. byte-within n (r aByte refl))
 
 receive-small : (station : Station) (store : List ℕ) (bus : ℕ) (image : List ℕ) → Receives (receive station store bus image)
 unfolding receive

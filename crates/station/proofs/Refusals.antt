@@ -1,23 +1,24 @@
 -- A refused call changes nothing but, after 7 and 8, the slot concerned, which is idle then.
-use Prim.Native.Nat.{ℕ, _*_, _≤_, _<_}
+use Prim.Native.Nat.{ℕ, _*_, _<_}
 use mathlib.Core.Path.{_≡_, refl, sym, ap, _∙_, subst}
-use mathlib.Core.Bool.{Bool, true, false, cond, _||_}
+use mathlib.Core.Bool.{Bool, true, false, cond, not, _||_}
 use mathlib.Core.List.{List, [], _∷_, _++_}
 use native.Mathlib.Omega.{arith}
 use lib.Dec.{ltb, leb, eqb}
 use lib.ListN.{length, set, take, drop, take-append-drop}
 use lib.Seq.{set-getD, drop-drop}
-use borrow.Author.Tests.{ltb-true, eqb-true, ne-eqb}
+use borrow.Author.Tests.{ltb-true, eqb-true, not-true}
 use Rattle.format.specs.declared.Format.{Format}
 use Rattle.format.specs.declared.Flag.{Flag}
 use Rattle.format.specs.declared.Flag.the-variants.{Middle, Start, End, Single}
 use Rattle.format.specs.declared.Refusal.{Refusal}
 use Rattle.format.specs.declared.Refusal.the-variants.{Orphan, Step, Long, Store, State}
+use Rattle.format.specs.Tests.{allTrue, allAfter}
 use Rattle.format.specs.Refusals.{Result, value, refused, number, check, guarded, checkedThen}
 use Rattle.format.proofs.Checks.{passed-then}
 use Rattle.format.proofs.Tests.{each}
 use Rattle.frame.specs.Judge.{Frame, Judged, judge}
-use Rattle.frame.proofs.Judged.{JudgingRefusal, judging-refusal}
+use Rattle.frame.proofs.Judged.{judging-refusal}
 use Rattle.stream.specs.declared.Progress.{Progress}
 use Rattle.stream.specs.declared.Progress.the-variants.{Idle, Collecting, Done}
 use Rattle.stream.specs.Answers.{Reply, filtered}
@@ -123,20 +124,17 @@ none-concerned station store k d n e =
 
 -- what is refused before a slot is looked for drops none
 let-in-refused : (station : Station) (store : List ℕ) (bus : ℕ) (image : List ℕ) (n : ℕ) → letIn station store bus image ≡ refused n → drops n ≡ false
-unfolding checkedThen
+unfolding checkedThen allTrue allAfter
 let-in-refused station store bus image n e = go (soundStation station) (fullSize store) (leb bus 1) e
   where
     other : (k : ℕ) → k ≡ n → drops k ≡ false → drops n ≡ false
     other k q d = subst (λ (m : ℕ). drops m ≡ false) q d
 
-    judged : JudgingRefusal n → drops n ≡ false
-    judged r = ap (λ (b : Bool). b || eqb n (number Long)) (ne-eqb n (number Step) (r .not-step)) ∙ ne-eqb n (number Long) (r .not-long)
-
     go : (s w b : Bool) → cond s (cond w (cond b (judge (station .format) image) (refused 9)) (refused 13)) (refused 21) ≡ refused n → drops n ≡ false
     go false w b e = other 21 (cc) refl
     go true false b e = other 13 (cc) refl
     go true true false e = other 9 (cc) refl
-    go true true true e = judged (judging-refusal (station .format) image n e)
+    go true true true e = not-true (drops n) (judging-refusal (station .format) image n e (λ m. not (drops m)) refl)
 
 module _ (station : Station) (store : List ℕ) (sixteen : length (station .slots) ≡ 16) (key : Key) (frame : Frame) where
   at-deliver : Kept station store (place (hasKey key) (station .slots)) (deliver station store key frame)

@@ -8,7 +8,7 @@ use native.Mathlib.Omega.{arith}
 use lib.Dec.{leb, ltb, eqb}
 use lib.ListN.{length, set, length-set, length-replicate}
 use lib.Seq.{getD-set-same, getD-set-other}
-use borrow.Author.Tests.{ltb-true, eqb-true, eq-eqb, ne-eqb, not-true}
+use borrow.Author.Tests.{ltb-true, eqb-true, eqb-false, eq-eqb, ne-eqb, not-true}
 use Rattle.format.specs.declared.Format.{Format}
 use Rattle.format.specs.declared.Format.the-variants.{Extended, Standard}
 use Rattle.format.specs.declared.Refusal.the-variants as refusal
@@ -127,11 +127,11 @@ stays = record { opens = opened-keeps; closes = closed-keeps; receives = receive
 -- ---- LONG
 
 examined-under : (format : Format) (bus : ℕ) (image : List ℕ) (n : ℕ) → examined format bus image ≡ refused n → n ≢ 8
-unfolding checkedThen
+unfolding checkedThen allTrue allAfter
 examined-under format bus image n e = go (leb bus 1) e
   where
     go : (b : Bool) → cond b (judge format image) (refused (number refusal.Field)) ≡ refused n → n ≢ 8
-    go true e = judging-refusal format image n e .not-long
+    go true e = eqb-false n 8 (not-true (eqb n 8) (judging-refusal format image n e (λ m. not (eqb m 8)) refl))
     go false e = let z : _≡_ {A = ℕ} 9 n = cc in λ q. omega (arith, q, z)
 
 NotLong : After → Type 0
