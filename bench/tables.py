@@ -7,7 +7,7 @@ usage: bench/tables.py FOLDER [--quick] [--counts]   of the files that bench/run
 import os
 import sys
 
-RECEIVE_LIMIT = 760
+RECEIVE_LIMIT = 1_200
 VALUE_LIMIT = 1_400
 SPLIT_RATIO = 2.0
 
@@ -222,7 +222,6 @@ def main():
     pairs(figures, "read", "reading a packet of bytes", "`siljuvatt_read`, sixteen streams open, instructions a call:")
     if not quick:
         pairs(figures, "change", "call", "Opening and closing, extended, instructions a call:")
-        pairs(figures, "tally", "tally", "`siljuvatt_tally`, sixteen streams open, instructions a call:")
     sys.exit(0 if print_targets(figures, "--counts" in sys.argv[2:]) else 1)
 
 

@@ -108,71 +108,6 @@ EDITS = {
             " if self.slots.iter().all(|slot| *slot != Slot::Closed) { return Err(Refusal::Full); }"
             " if self.slots.iter().any(|slot| slot.key() == Some(key)) { return Err(Refusal::Taken); }",
         ),
-        # 26 comes after 9 and before 1 (L5), and only an image that is judged is counted.
-        (
-            " if !is_bus(bus) { return Err(Refusal::Field); } if self.tallies.any_full() { return Err(Refusal::Tally); }",
-            " if self.tallies.any_full() { return Err(Refusal::Tally); } if !is_bus(bus) { return Err(Refusal::Field); }",
-        ),
-        (
-            " self.check(store)?; if !is_bus(bus)",
-            " if self.is_sound() && self.tallies.any_full() { return Err(Refusal::Tally); }"
-            " self.check(store)?; if !is_bus(bus)",
-        ),
-        (
-            " self.check(store)?; if !is_bus(bus)",
-            " if self.tallies.any_full() { return Err(Refusal::Tally); } self.check(store)?; if !is_bus(bus)",
-        ),
-        (" if self.tallies.any_full() { return Err(Refusal::Tally); }", ""),
-        (
-            " if let Err(refusal) = self.admit(bus, store) {",
-            " if let (Err(Refusal::Tally), Err(refusal)) = (self.admit(bus, store), judge(self.format, image))"
-            " { return (self, Answer::Refused(refusal)); } if let Err(refusal) = self.admit(bus, store) {",
-        ),
-        (" self.tallies.raise(answer);", ""),
-        (
-            " self.tallies.raise(answer);",
-            " if !matches!(answer, Answer::Refused(_)) { self.tallies.raise(answer); }",
-        ),
-        (
-            " if let Err(refusal) = self.admit(bus, store) {",
-            " if let Err(refusal) = self.admit(bus, store) { self.tallies.0[5] = self.tallies.0[5].saturating_add(1);",
-        ),
-        (
-            " self.slots[slot] = Slot::Closed; (self, Ok(slot))",
-            " self.slots[slot] = Slot::Closed; self.tallies = Tallies::new(); (self, Ok(slot))",
-        ),
-        (
-            " let state = State::Idle; self.slots[i]",
-            " let state = State::Idle; self.tallies.0[4] = 0; self.slots[i]",
-        ),
-        (
-            "pub fn is_sound(&self) -> bool { self",
-            "pub fn is_sound(&self) -> bool { !self.tallies.any_full() && self",
-        ),
-    ],
-    # L5: each image that is judged raises its own tally, and none is judged while one is full.
-    "tally.rs": [
-        ("self.0.contains(&u64::MAX)", "self.0[1..].contains(&u64::MAX)"),
-        ("self.0.contains(&u64::MAX)", "self.0[..13].contains(&u64::MAX)"),
-        ("self.0.contains(&u64::MAX)", "self.0.contains(&(u64::MAX - 1))"),
-        ("self.0.contains(&u64::MAX)", "self.0.iter().any(|&tally| tally >= u64::MAX - 1)"),
-        ("self.0.contains(&u64::MAX)", "self.0.iter().all(|&tally| tally == u64::MAX)"),
-        ("self.0[place] += 1;", "self.0[place] = u64::from(self.0[place] as u32 + 1);"),
-        ("self.0[place] += 1;", "self.0[place] += 2;"),
-        ("self.0[place] += 1;", "self.0[place] = (self.0[place] + 1).min(u64::MAX - 1);"),
-        ("Some(if broke { 1 } else { 0 })", "Some(0)"),
-        ("Some(if broke { 3 } else { 2 })", "Some(2)"),
-        ("Some(if broke { 1 } else { 0 })", "Some(if broke { 0 } else { 1 })"),
-        ("Some(if broke { 3 } else { 2 })", "Some(if broke { 2 } else { 3 })"),
-        ("Answer::Filtered => Some(4)", "Answer::Filtered => None"),
-        ("Answer::Packet { broke, .. } =>", "Answer::Packet { length: 0, .. } => None, Answer::Packet { broke, .. } =>"),
-        ("Refusal::Step, Refusal::Long, ", "Refusal::Long, Refusal::Step, "),
-        ("Refusal::Form, Refusal::Remote, ", "Refusal::Remote, Refusal::Form, "),
-        ("Refusal::Count, Refusal::Piece,", "Refusal::Surplus, Refusal::Piece,"),
-        ("Refusal::Long, Refusal::Surplus,", "Refusal::Surplus, Refusal::Long,"),
-        ("Refusal::Length, Refusal::Form,", "Refusal::Tally, Refusal::Form,"),
-        ("Refusal::Piece, Refusal::Orphan,", "Refusal::Orphan, Refusal::Piece,"),
-        ("[0; TALLY_COUNT]", "[1; TALLY_COUNT]"),
     ],
     "frame.rs": [
         ("|| header[4] & 0b111 != 0", ""),
@@ -285,20 +220,7 @@ EDITS = {
         ("(slot_numbers(&slot) == (key, state))", "(slot_numbers(&slot).0 == key)"),
         ("(slot_numbers(&slot) == (key, state))", "(slot_numbers(&slot).1 == state)"),
         (" if bytes.len() != STATION_SIZE ||", " if bytes.len() < STATION_SIZE ||"),
-        (" || bytes[LAYOUT_AT] != STATION_LAYOUT", ""),
-        # The tallies, low byte first, behind the layout's number (L5).
-        ("TALLIES_AT + TALLY_COUNT * TALLY_SIZE", "TALLIES_AT + TALLY_COUNT * TALLY_SIZE + 1"),
-        ("STATION_LAYOUT: u8 = 2", "STATION_LAYOUT: u8 = 1"),
-        ("place.copy_from_slice(&tally.to_le_bytes());", "place.copy_from_slice(&tally.to_be_bytes());"),
-        ("*tally = number(place);", "*tally = number(place) & 0x7FFF_FFFF_FFFF_FFFF;"),
-        ("*tally = number(place);", "*tally = number(&place[..7]);"),
-        ("tallies.0.iter_mut().zip(bytes", "tallies.0.iter_mut().rev().zip(bytes"),
-        ("tallies.0.iter_mut().zip(bytes", "tallies.0[..13].iter_mut().zip(bytes"),
-        (" station.tallies = tallies_of(&bytes[TALLIES_AT..]);", ""),
-        (
-            "bytes.len() != STATION_SIZE || bytes[LAYOUT_AT] != STATION_LAYOUT",
-            "bytes.len() != STATION_SIZE && bytes.len() != TALLIES_AT || bytes[LAYOUT_AT] > STATION_LAYOUT",
-        ),
+        (" || bytes[STATION_SIZE - 1] != STATION_LAYOUT", ""),
         ("fields + 128 * u32::from(key.bus)", "fields + 64 * u32::from(key.bus)"),
         ("+ 4 * u32::from(function)", "+ 8 * u32::from(function)"),
     ],
@@ -318,7 +240,7 @@ EDITS = {
     ],
     "interface/mod.rs": [
         ("if length.is_ok() { *start = slot * AREA_SIZE; }", "*start = slot % 16 * AREA_SIZE;"),
-        ("RELEASE: [u8; 3] = [0, 3, 0]", "RELEASE: [u8; 3] = [0, 3, 1]"),
+        ("RELEASE: [u8; 3] = [0, 2, 0]", "RELEASE: [u8; 3] = [0, 2, 1]"),
         (
             "if station.len() != STATION_SIZE { return refused(Refusal::State); }"
             " let Some(format) = format_of(format) else { return refused(Refusal::Field); };",
@@ -326,19 +248,6 @@ EDITS = {
             " if station.len() != STATION_SIZE { return refused(Refusal::State); }",
         ),
         ("if answer != Answer::Refused(Refusal::State) {", "if !matches!(answer, Answer::Refused(_)) {"),
-        ("let tally = station.tallies.0.get(index);", "let tally = station.tallies.0.get(index % 14);"),
-        ("let tally = station.tallies.0.get(index);", "let tally = station.tallies.0[..13].get(index);"),
-        ("let tally = station.tallies.0.get(index);", "let tally = station.tallies.0.get(index as u8 as usize);"),
-        ("tally.copied().ok_or(Refusal::Index)", "tally.copied().ok_or(Refusal::Closed)"),
-        ("Err(refusal) => refused(refusal), } } pub fn filter", "Err(refusal) => { *value = 0; refused(refusal) } } } pub fn filter"),
-        (
-            "let tally = sound_station(station).and_then(|station| {",
-            "if index > 13 { return refused(Refusal::Index); } let tally = sound_station(station).and_then(|station| {",
-        ),
-        (
-            "let tally = sound_station(station).and_then(|station| {",
-            "let tally = station_of(station).ok_or(Refusal::State).and_then(|station| {",
-        ),
         (
             " let fields = fields_of(old.format, fields)?;",
             " let most = if old.format == Format::Extended { 5 } else { 3 };"

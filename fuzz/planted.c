@@ -2,8 +2,7 @@
  * Faults planted in calls of the library, one at a time, by the name in PLANTED. fuzz/run links them in by --wrap, to
  * see that each is told: a read one byte behind a row, by valgrind; the same through memcpy, which AddressSanitizer
  * watches; and by fuzz/replay.c a wrong answer, a wrong byte, a wrong number, a wrong byte of the store, images too short
- * and too long taken for each other, the bytes behind an image left unread, a tally that rises by one too many, one that is
- * told wrong, and an image refused by a full tally that is received all the same.
+ * and too long taken for each other, and the bytes behind an image left unread.
  */
 #include <stdlib.h>
 #include <string.h>
@@ -16,9 +15,6 @@
     result __wrap_siljuvatt_##call arguments
 
 #define REFUSED(refusal) (UINT32_C(0x80000000) | (refusal))
-
-/* The tally of the answer kept, low byte first, in the bytes of a station. */
-enum { TALLIES_AT = 130, OF_KEPT = TALLIES_AT + 2 * 8 };
 
 static volatile uint8_t last;
 
@@ -71,20 +67,8 @@ WRAPPED(uint32_t, receive,
         answer = __real_siljuvatt_receive(station, station_length, store, store_length, bus, image, --image_length);
     if (planted("exchanged") && (answer == too_short || answer == too_long))
         answer ^= too_short ^ too_long;
-    if (planted("full") && answer == REFUSED(SILJUVATT_REFUSAL_TALLY))
-        answer = (uint32_t)SILJUVATT_FILTERED << 16;
-    if (planted("risen") && !SILJUVATT_IS_REFUSED(answer) && SILJUVATT_KIND(answer) == SILJUVATT_KEPT)
-        station[OF_KEPT]++;
     if (store_length != 0)
         store[store_length - 1] |= planted("store");
-    return answer;
-}
-
-WRAPPED(uint32_t, tally, (const uint8_t *station, size_t station_length, size_t index, uint64_t *value))
-{
-    uint32_t answer = __real_siljuvatt_tally(station, station_length, index, value);
-
-    *value ^= planted("tally");
     return answer;
 }
 

@@ -119,16 +119,15 @@ static struct buffer lend(void)
     return buffer;
 }
 
-/* The place of a number of eight bytes: a size_t or a uint64_t. */
-_Static_assert(sizeof(size_t) == sizeof(uint64_t), "a size_t has eight bytes");
-static void *lend_number(void)
+/* The place of a number. */
+static size_t *lend_number(void)
 {
-    struct buffer buffer = new_buffer(sizeof(uint64_t));
-    uint64_t number = read_number(8);
+    struct buffer buffer = new_buffer(sizeof(size_t));
+    size_t number = read_size();
 
     memcpy(buffer.bytes, &number, sizeof number);
     keep(buffer, NUMBER);
-    return buffer.bytes;
+    return (size_t *)(void *)buffer.bytes;
 }
 
 static void compare(struct buffer got, const char *difference)
@@ -145,13 +144,13 @@ static void compare(struct buffer got, const char *difference)
 /* Compares all that the call was lent. */
 static void end_call(void)
 {
-    uint64_t number;
+    size_t number;
     int i;
 
     for (i = 0; i < count; i++) {
         if (kinds[i] == NUMBER) {
             memcpy(&number, lent[i].bytes, sizeof number);
-            if (number != read_number(8))
+            if (number != read_size())
                 fail("a number differs");
         } else if (kinds[i] != STORE) {
             compare(lent[i], "what was lent differs");
@@ -232,15 +231,6 @@ static uint32_t call_read(void)
     size_t *start = lend_number();
 
     return siljuvatt_read(station.bytes, station.length, store.bytes, store.length, slot, start);
-}
-
-static uint32_t call_tally(void)
-{
-    struct buffer station = lend();
-    size_t index = read_size();
-    uint64_t *value = lend_number();
-
-    return siljuvatt_tally(station.bytes, station.length, index, value);
 }
 
 static uint32_t call_filter_accepts(void)
@@ -325,10 +315,10 @@ static const struct {
     const char *name;
     uint32_t (*make)(void);
 } known[] = {
-    CALL(version),      CALL(piece_count),    CALL(write_piece),  CALL(station_new),    CALL(open),
-    CALL(close),        CALL(receive),        CALL(read),         CALL(tally),          CALL(filter_accepts),
-    CALL(row_accepts),  CALL(master_new),     CALL(master_start), CALL(master_reply),   CALL(master_timeout),
-    CALL(watch_new),    CALL(watch_heard),    CALL(watch_check),
+    CALL(version),      CALL(piece_count),  CALL(write_piece),    CALL(station_new), CALL(open),
+    CALL(close),        CALL(receive),      CALL(read),           CALL(filter_accepts), CALL(row_accepts),
+    CALL(master_new),   CALL(master_start), CALL(master_reply),   CALL(master_timeout), CALL(watch_new),
+    CALL(watch_heard),  CALL(watch_check),
 };
 
 /* ---- The record ---- */

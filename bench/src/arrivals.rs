@@ -1,7 +1,7 @@
 //! What a station is given to receive: frames of every kind, by the answer that they get.
 
 use crate::plain::{
-    Fields, Format, Key, Progress, Refusal, Station, Stream, AREA_SIZE, SLOTS, STORE_SIZE, TALLIES,
+    Fields, Format, Key, Progress, Refusal, Station, Stream, AREA_SIZE, SLOTS, STORE_SIZE,
 };
 use crate::receivers::Receiver;
 use crate::split;
@@ -257,8 +257,6 @@ fn refused_before(format: Format) -> Vec<Row> {
     alike.station.slots[LAST] = alike.station.slots[LAST - 1];
     let mut outside = good.clone();
     outside.station.slots[0] = beyond(format);
-    let mut full = good.clone();
-    full.station.tallies[TALLIES - 1] = u64::MAX;
     let bus = Arrival {
         bus: 2,
         ..good.clone()
@@ -269,7 +267,6 @@ fn refused_before(format: Format) -> Vec<Row> {
     };
     let unsound = Answered::Refused(Refusal::State);
     vec![
-        refusal(Refusal::Tally, full),
         refusal(Refusal::Field, bus),
         refusal(Refusal::Store, short),
         row(unsound, "slots 14 and 15 alike", alike),

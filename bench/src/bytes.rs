@@ -6,10 +6,6 @@
 use second::interface::{refused, FILTERED, KEPT, PACKET};
 pub use second::interface::{STATION_LAYOUT, STATION_SIZE};
 
-/// Where the format and the layout's number are, and behind them the tallies.
-const FORMAT_AT: usize = 8 * SLOTS;
-const TALLIES_AT: usize = FORMAT_AT + 2;
-
 use crate::plain::{Fields, Format, Key, Progress, Refusal, Reply, Station, Stream, SLOTS};
 
 fn key_number(key: Key) -> u32 {
@@ -100,7 +96,7 @@ pub fn station_of(bytes: &[u8]) -> Result<Station, Refusal> {
     if bytes.len() != STATION_SIZE {
         return Err(Refusal::State);
     }
-    let format = match bytes[FORMAT_AT..TALLIES_AT] {
+    let format = match bytes[8 * SLOTS..] {
         [0, STATION_LAYOUT] => Format::Extended,
         [1, STATION_LAYOUT] => Format::Standard,
         _ => return Err(Refusal::State),
@@ -108,10 +104,6 @@ pub fn station_of(bytes: &[u8]) -> Result<Station, Refusal> {
     let mut station = Station::new(format);
     for (slot, record) in station.slots.iter_mut().zip(bytes.chunks_exact(8)) {
         *slot = slot_of(format, record)?;
-    }
-    let (places, _) = bytes[TALLIES_AT..].as_chunks();
-    for (tally, place) in station.tallies.iter_mut().zip(places) {
-        *tally = u64::from_le_bytes(*place);
     }
     Ok(station)
 }
@@ -125,11 +117,7 @@ pub fn put_station(station: &Station, bytes: &mut [u8]) {
         record[..4].copy_from_slice(&key.to_le_bytes());
         record[4..].copy_from_slice(&progress.to_le_bytes());
     }
-    bytes[FORMAT_AT..TALLIES_AT].copy_from_slice(&[station.format as u8, STATION_LAYOUT]);
-    let places = bytes[TALLIES_AT..].chunks_exact_mut(8);
-    for (tally, place) in station.tallies.iter().zip(places) {
-        place.copy_from_slice(&tally.to_le_bytes());
-    }
+    bytes[8 * SLOTS..].copy_from_slice(&[station.format as u8, STATION_LAYOUT]);
 }
 
 pub fn receive(

@@ -9,7 +9,7 @@ use crate::arrivals::{
 use crate::bytes::fields_bytes;
 use crate::library;
 use crate::measured;
-use crate::plain::{Format, Key, Progress, Refusal, Station, SLOTS, STORE_SIZE, TALLIES};
+use crate::plain::{Format, Key, Progress, Refusal, Station, SLOTS, STORE_SIZE};
 use crate::receivers::{Library, Plain, PlainBytes, Receiver};
 use crate::split;
 
@@ -258,30 +258,6 @@ fn read_cases() -> Vec<Case> {
     cases
 }
 
-fn tally_pair(title: &str, index: usize) -> [Case; 2] {
-    let row = Row::new("tally", title, 1, 0);
-    let station = station_with(Format::Extended, SLOTS, Progress::Idle);
-    let Library(bytes) = Library::from_station(&station);
-    let mut value = 0;
-    let by_library = row.case("library", move || {
-        let bytes = black_box(&bytes);
-        black_box(&library::tally(bytes, black_box(index), &mut value));
-    });
-    let by_plain = row.case("plain", move || {
-        let station = black_box(&station);
-        black_box(&measured::plain_tally(station, black_box(index)));
-    });
-    [by_library, by_plain]
-}
-
-fn tally_cases() -> Vec<Case> {
-    let none = refused_name(Refusal::Index);
-    let mut cases = Vec::from(tally_pair("the first", 0));
-    cases.extend(tally_pair("the last", TALLIES - 1));
-    cases.extend(tally_pair(&none, TALLIES));
-    cases
-}
-
 /// A call that changes a station, each time the same one.
 fn change_pair(
     title: String,
@@ -338,7 +314,6 @@ pub fn all(quick: bool) -> Vec<Case> {
         cases.extend(packet_cases());
         cases.extend(frame_cases());
         cases.extend(change_cases());
-        cases.extend(tally_cases());
     }
     cases
 }

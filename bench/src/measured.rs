@@ -50,12 +50,6 @@ pub fn plain_read<'a>(
 
 #[no_mangle]
 #[inline(never)]
-pub fn plain_tally(station: &Station, index: usize) -> Result<u64, Refusal> {
-    station.tally(index)
-}
-
-#[no_mangle]
-#[inline(never)]
 pub fn plain_piece_count(format: Format, size: usize) -> Result<usize, Refusal> {
     split::piece_count(format, size)
 }

@@ -9,7 +9,6 @@ use std::cmp::Ordering;
 pub const SLOTS: usize = 16;
 pub const AREA_SIZE: usize = 2_048;
 pub const STORE_SIZE: usize = SLOTS * AREA_SIZE;
-pub const TALLIES: usize = 14;
 
 #[derive(Clone, Copy, Debug, PartialEq, Eq)]
 pub enum Format {
@@ -307,22 +306,10 @@ impl Stream {
     }
 }
 
-/// The place of the tally of an image's answer.
-fn tally_of(answer: Result<Reply, Refusal>) -> usize {
-    match answer {
-        Ok(Reply::Packet { broke, .. }) => usize::from(broke),
-        Ok(Reply::Kept { broke }) => 2 + usize::from(broke),
-        Ok(Reply::Filtered) => 4,
-        Err(Refusal::Surplus) => 13,
-        Err(refusal) => 4 + usize::from(refusal.number()),
-    }
-}
-
 #[derive(Clone, Debug, PartialEq, Eq)]
 pub struct Station {
     pub format: Format,
     pub slots: [Option<Stream>; SLOTS],
-    pub tallies: [u64; TALLIES],
 }
 
 impl Station {
@@ -330,7 +317,6 @@ impl Station {
         Station {
             format,
             slots: [None; SLOTS],
-            tallies: [0; TALLIES],
         }
     }
 
@@ -371,15 +357,6 @@ impl Station {
         if bus > 1 {
             return Err(Refusal::Field);
         }
-        if self.tallies.contains(&u64::MAX) {
-            return Err(Refusal::Tally);
-        }
-        let answer = self.judged(store, bus, image);
-        self.tallies[tally_of(answer)] += 1;
-        answer
-    }
-
-    fn judged(&mut self, store: &mut [u8], bus: u8, image: &[u8]) -> Result<Reply, Refusal> {
         let frame = judge(self.format, image)?;
         let key = Key {
             bus,
@@ -434,10 +411,5 @@ impl Station {
             Some(Some(_)) => Err(Refusal::NoPacket),
             _ => Err(Refusal::Closed),
         }
-    }
-
-    pub fn tally(&self, i: usize) -> Result<u64, Refusal> {
-        self.check()?;
-        self.tallies.get(i).copied().ok_or(Refusal::Index)
     }
 }

@@ -4,7 +4,7 @@
 use bench::arrivals::{fields_at, kinds, one_source, Answered, FORMATS};
 use bench::bytes::STATION_SIZE;
 use bench::bytes::{self, fields_bytes, number_word, put_station, reply_word, station_of};
-use bench::plain::{Format, Key, Refusal, Station, SLOTS, STORE_SIZE, TALLIES};
+use bench::plain::{Format, Key, Refusal, Station, SLOTS, STORE_SIZE};
 use bench::receivers::{Library, Plain, PlainBytes};
 use bench::{library, split};
 use second::interface::{refused, FILTERED, KEPT, PACKET};
@@ -13,7 +13,7 @@ use testkit::damage::{corrupt, LONGEST};
 use testkit::Random;
 
 /// The faults that can be planted, by the comparisons that have to tell them.
-const IN_TRAFFIC: [&str; 17] = [
+const IN_TRAFFIC: [&str; 15] = [
     "open",
     "close",
     "receive",
@@ -21,8 +21,6 @@ const IN_TRAFFIC: [&str; 17] = [
     "read",
     "packet",
     "start",
-    "tally",
-    "tally's answer",
     "state",
     "state by bytes",
     "station",
@@ -120,23 +118,6 @@ impl Bench {
         }
     }
 
-    fn tally(&self, index: usize) {
-        let mut value = 7;
-        let answer = library::tally(&self.library, index, &mut value);
-        let own = self.plain.tally(index);
-        let answer = self.answer("tally's answer", answer);
-        assert_eq!(number_word(own.map(|_| 0)), answer);
-        let value = value ^ u64::from(self.fault == "tally");
-        assert_eq!(own.unwrap_or(7), value);
-    }
-
-    /// A tally that is one below its largest value before long.
-    fn nearly_full(&mut self, index: usize) {
-        self.plain.tallies[index] = u64::MAX - 20;
-        put_station(&self.plain, &mut self.library);
-        self.plain_bytes = self.library;
-    }
-
     fn check_states(&self) {
         let mut own = [0; STATION_SIZE];
         put_station(&self.plain, &mut own);
@@ -219,9 +200,6 @@ fn kind_of(answer: u32) -> u32 {
 fn traffic(seed: u64, format: Format, fault: &'static str, answers: &mut Vec<u32>) {
     let mut random = Random::new(seed);
     let mut bench = Bench::new(format, fault);
-    if seed % 10 == 0 {
-        bench.nearly_full(random.below(TALLIES));
-    }
     for _ in 0..60 {
         match random.below(8) {
             0 => bench.close(random.below(SLOTS + 1)),
@@ -250,7 +228,6 @@ fn traffic(seed: u64, format: Format, fault: &'static str, answers: &mut Vec<u32
             bench.check_states();
         }
         bench.read(random.below(SLOTS + 2));
-        bench.tally(random.below(TALLIES + 2));
         bench.check_stores();
     }
 }
@@ -274,7 +251,6 @@ fn traffic_is_received_alike() {
         Refusal::Orphan,
         Refusal::Step,
         Refusal::Field,
-        Refusal::Tally,
     ];
     let expected = taken.into_iter().flatten().chain([FILTERED << 16]);
     for answer in expected.chain(refusals.map(refused)) {
@@ -327,10 +303,10 @@ fn counts_are_read_alike() {
     }
 }
 
-/// Bytes that are no sound station, and some that are; answers how many were, and how many had a full tally.
-fn states(turns: usize, fault: &'static str) -> (usize, usize) {
+/// Bytes that are no sound station, and some that are; answers how many were.
+fn states(turns: usize, fault: &'static str) -> usize {
     let mut random = Random::new(7);
-    let (mut sound, mut full) = (0, 0);
+    let mut sound = 0;
     for turn in 0..turns {
         let format = FORMATS[turn % 2];
         let mut bench = Bench::new(format, fault);
@@ -339,10 +315,6 @@ fn states(turns: usize, fault: &'static str) -> (usize, usize) {
                 bus: random.below(2) as u8,
                 fields: fields_at(format, slot),
             });
-        }
-        if random.chance(100) {
-            bench.plain.tallies[random.below(TALLIES)] = u64::MAX - random.below(2) as u64;
-            put_station(&bench.plain, &mut bench.library);
         }
         for _ in 0..random.below(3) {
             let i = random.below(STATION_SIZE);
@@ -355,16 +327,14 @@ fn states(turns: usize, fault: &'static str) -> (usize, usize) {
         bench.plain_bytes = bench.library;
         let answer = bench.judge(&[0x81, 0x45, 0, 0xC0, 0x10, 7]);
         sound += usize::from(answer != refused(Refusal::State));
-        full += usize::from(answer == refused(Refusal::Tally));
     }
-    (sound, full)
+    sound
 }
 
 #[test]
 fn states_are_judged_alike() {
-    let (sound, full) = states(40_000, "");
+    let sound = states(40_000, "");
     assert!((8_000..32_000).contains(&sound), "{sound}");
-    assert!((1_000..4_000).contains(&full), "{full}");
 }
 
 /// Whether a comparison fails.

@@ -1,44 +1,39 @@
 //! Compares the calls of a station, script by script.
 
 use crate::exchange;
-use crate::occurred::Occurred;
 use crate::request::{self, answer, encode, judged, name, refused, Request, BY_COUNT};
-use crate::rise::{Expected, Raised, TALLIES};
-use crate::script::{
-    Script, CUT_SHORT, FULL_TALLY, LENT_OTHER, MALFORMED, NEARLY_FULL, UNSOUND, WHOLE_STORE,
-};
-use crate::tallies;
+use crate::script::{Script, CUT_SHORT, LENT_OTHER, MALFORMED, UNSOUND, WHOLE_STORE};
+use crate::tally::Tally;
 use second::format::Format;
 use second::refusal::Refusal;
 use std::fs;
 use std::path::Path;
 use testkit::damage::is_over_8;
-use testkit::tallies::FULL;
 use testkit::{keys, FORMATS};
 
 /// Runs both programs on that many scripts and compares their responses one by one.
 pub fn compare(calls: &Path, count: u64, seed: u64, keep: Option<&Path>) -> Result<(), String> {
-    let mut occurred = Occurred::requiring(names());
+    let mut tally = Tally::requiring(names());
     let mut requests = 0;
     for number in 0..count {
         let script = Script::generate(seed, number);
-        compare_one(calls, &script, &mut occurred).map_err(|difference| {
+        compare_one(calls, &script, &mut tally).map_err(|difference| {
             let kept = keep.map_or(String::new(), |file| keep_script(file, &whole(&script)));
             format!("seed {seed}, script {number}, {difference}{kept}")
         })?;
         requests += script.requests.len();
     }
-    occurred.print();
-    occurred.check()?;
+    tally.print();
+    tally.check()?;
     println!("equal: {count} scripts, {requests} requests");
     Ok(())
 }
 
-fn compare_one(calls: &Path, script: &Script, occurred: &mut Occurred) -> Result<(), String> {
+fn compare_one(calls: &Path, script: &Script, tally: &mut Tally) -> Result<(), String> {
     let responses = exchange::both(calls, &script.requests, &script.tail)?;
-    count_answers(&script.requests, &responses, occurred)?;
+    count_answers(&script.requests, &responses, tally);
     for note in &script.notes {
-        occurred.count(&row(note.format, note.front, note.what));
+        tally.count(&row(note.format, note.front, note.what));
     }
     Ok(())
 }
@@ -79,7 +74,6 @@ fn received(format: Format) -> Vec<String> {
         Refusal::Field,
         Refusal::Store,
         Refusal::State,
-        Refusal::Tally,
     ];
     let own: &[Refusal] = match format {
         Format::Extended => &[Refusal::Form, Refusal::Long],
@@ -143,41 +137,18 @@ fn of_length(length: usize) -> String {
     format!("RECEIVE of an image of {length} bytes")
 }
 
-/// Of the tally of an answer, that an image raised it.
-fn of_raised(answer: &str) -> String {
-    format!("RECEIVE raises the tally of {answer}")
-}
-
-/// Of any tally, that an image raised it to its largest value.
-const FILLED: &str = "RECEIVE raises a tally to 2^64 - 1";
-
-/// Of the tally of an answer, that it is set by hand to a value that matters.
-fn of_set(answer: &str, value: u64) -> Option<String> {
-    let below = FULL - value;
-    (below < 2).then(|| format!("TALLY of {answer} set to 2^64 - {}", below + 1))
-}
-
 fn names() -> Vec<String> {
     let mut names = Vec::new();
     for format in FORMATS {
         for front in [0, 1] {
-            let known = UNSOUND
-                .into_iter()
-                .chain([LENT_OTHER, FULL_TALLY, NEARLY_FULL]);
+            let known = UNSOUND.into_iter().chain([LENT_OTHER]);
             let rows = received(format).into_iter().chain(known.map(String::from));
             names.extend(rows.map(|what| row(format, front, &what)));
             names.push(row(format, front, &longest(format)));
             names.extend(BY_COUNT.map(|judged| row(format, front, &of_code(judged))));
             names.extend((0..=15).map(|length| row(format, front, &of_length(length))));
-            let raised = tallies::answers(format).map(of_raised);
-            names.extend(raised.map(|what| row(format, front, &what)));
-            names.push(row(format, front, FILLED));
         }
         names.extend(others().iter().map(|what| row(format, 0, what)));
-        for answer in TALLIES {
-            let set = [FULL - 1, FULL].map(|value| of_set(answer, value));
-            names.extend(set.into_iter().flatten().map(|what| row(format, 0, &what)));
-        }
     }
     names
 }
@@ -190,76 +161,37 @@ fn of_image(format: Format, image: &[u8], response: &[u8]) -> impl Iterator<Item
     code.into_iter().chain([of_length(image.len())])
 }
 
-/// What is counted of the tallies: the one that an image raised, or one that was set by hand.
-fn of_tallies(request: &Request, raised: Option<Raised>) -> Vec<String> {
-    if let Some(Raised { place, value }) = raised {
-        let filled = (value == FULL).then(|| FILLED.to_string());
-        return filled
-            .into_iter()
-            .chain([of_raised(TALLIES[place])])
-            .collect();
-    }
-    match request[..] {
-        [request::TALLY, index, ref value @ ..] => {
-            let value = value.try_into().map(u64::from_be_bytes);
-            let set = value.map(|value| of_set(TALLIES[usize::from(index)], value));
-            set.into_iter().flatten().collect()
-        }
-        _ => Vec::new(),
-    }
-}
-
-/// Counts the answers of the calls on the station, by the format and the front it has at that time, and refuses tallies
-/// that are not as L5 says.
-fn count_answers(
-    requests: &[Request],
-    responses: &[Vec<u8>],
-    occurred: &mut Occurred,
-) -> Result<(), String> {
+/// Counts the answers of the calls on the station, by the format and the front it has at that time.
+fn count_answers(requests: &[Request], responses: &[Vec<u8>], tally: &mut Tally) {
     let (mut format, mut front) = (Format::Extended, 0);
-    let mut tallies = Expected::new();
-    for (place, (request, response)) in requests.iter().zip(responses).enumerate() {
-        let raised = tallies
-            .follow(request, response)
-            .map_err(|said| format!("request {place}: both programs: {said}"))?;
+    for (request, response) in requests.iter().zip(responses) {
         match request[..] {
             [request::NEW, 0] => (format, front) = (Format::Extended, 0),
             [request::NEW, 1] => (format, front) = (Format::Standard, 0),
             [request::FRONT, set @ (0 | 1)] => front = set,
             _ => {}
         }
-        if response.is_empty() {
+        let operation = request.first().copied().unwrap_or(0);
+        let counted = [
+            request::OPEN,
+            request::CLOSE,
+            request::RECEIVE,
+            request::READ,
+        ];
+        if !counted.contains(&operation) || response.is_empty() {
             continue;
         }
-        let whats = of_call_made(format, request, response).into_iter();
-        for what in whats.chain(of_tallies(request, raised)) {
-            occurred.count(&row(format, front, &what));
+        let what = format!("{} {}", name(operation), answer(response));
+        tally.count(&row(format, front, &what));
+        if operation == request::RECEIVE {
+            let what = of_image(format, &request[2..], response);
+            what.for_each(|what| tally.count(&row(format, front, &what)));
+        }
+        let [high, low] = (format.packet_limit() as u16).to_be_bytes();
+        if response.starts_with(&[1, high, low]) {
+            tally.count(&row(format, front, &longest(format)));
         }
     }
-    Ok(())
-}
-
-/// What is counted of a call on the station.
-fn of_call_made(format: Format, request: &Request, response: &[u8]) -> Vec<String> {
-    let operation = request[0];
-    let counted = [
-        request::OPEN,
-        request::CLOSE,
-        request::RECEIVE,
-        request::READ,
-    ];
-    if !counted.contains(&operation) {
-        return Vec::new();
-    }
-    let mut whats = vec![format!("{} {}", name(operation), answer(response))];
-    if operation == request::RECEIVE {
-        whats.extend(of_image(format, &request[2..], response));
-    }
-    let [high, low] = (format.packet_limit() as u16).to_be_bytes();
-    if response.starts_with(&[1, high, low]) {
-        whats.push(longest(format));
-    }
-    whats
 }
 
 /// Writes a script that was found to differ to a file, and says so.
@@ -273,17 +205,7 @@ pub fn keep_script(file: &Path, script: &[u8]) -> String {
 #[cfg(test)]
 mod tests {
     use super::*;
-    use crate::rise::tests::response;
     use std::collections::HashSet;
-
-    /// Tallies of which those given with their place are not 0.
-    fn tallies(of: &[(usize, u64)]) -> [u64; 14] {
-        let mut tallies = [0; 14];
-        for &(place, value) in of {
-            tallies[place] = value;
-        }
-        tallies
-    }
 
     #[test]
     fn counts_by_format_and_answer() {
@@ -301,12 +223,12 @@ mod tests {
         let responses = [
             vec![4, 0, 16, 0],
             value.clone(),
-            response([4, 0, 21, 0], [0; 14]),
-            response([5, 0, 0, 0], [0; 14]),
-            response([1, 7, 0, 1], tallies(&[(1, 1)])),
+            vec![4, 0, 21, 0],
+            value.clone(),
+            vec![1, 7, 0, 1],
             value,
             Vec::new(),
-            response([4, 0, 1, 0], tallies(&[(1, 1), (5, 1)])),
+            vec![4, 0, 1, 0],
         ];
         let names = [
             "extended READ refused 16",
@@ -314,65 +236,31 @@ mod tests {
             "extended front 1 RECEIVE of an image of 15 bytes",
             "standard front 0 RECEIVE packet broke",
             "standard front 0 RECEIVE packet of 1792 bytes",
-            "standard front 0 RECEIVE raises the tally of packet broke",
             "standard front 1 RECEIVE refused 1",
             "standard front 1 RECEIVE of an image of 1 bytes",
-            "standard front 1 RECEIVE raises the tally of refused 1",
         ];
-        let mut occurred = Occurred::requiring(names.map(str::to_string).to_vec());
-        count_answers(&requests, &responses, &mut occurred).unwrap();
-        assert_eq!(occurred.check(), Ok(()));
-    }
-
-    #[test]
-    fn counts_tallies_next_to_the_largest_value() {
-        let value = [5, 0, 0, 0];
-        let one_below = tallies(&[(4, FULL - 1)]);
-        let full = tallies(&[(4, FULL)]);
-        let calls = [
-            (request::tally(4, FULL - 1), response(value, one_below)),
-            (request::receive(0, &[0]), response([3, 0, 0, 0], full)),
-            (request::receive(0, &[0]), response([4, 0, 26, 0], full)),
-            (request::tally(4, FULL), response(value, full)),
-            (request::tally(4, 3), response(value, tallies(&[(4, 3)]))),
-        ];
-        let (requests, mut responses): (Vec<_>, Vec<_>) = calls.into_iter().unzip();
-        let names = [
-            "extended TALLY of filtered set to 2^64 - 2",
-            "extended TALLY of filtered set to 2^64 - 1",
-            "extended front 0 RECEIVE raises a tally to 2^64 - 1",
-            "extended front 0 RECEIVE refused 26",
-        ];
-        let mut occurred = Occurred::requiring(names.map(str::to_string).to_vec());
-        count_answers(&requests, &responses, &mut occurred).unwrap();
-        assert_eq!(occurred.check(), Ok(()));
-        // Both programs may be wrong alike.
-        responses[1] = response([3, 0, 0, 0], one_below);
-        let said = count_answers(&requests, &responses, &mut occurred).unwrap_err();
-        assert!(said.starts_with("request 1: both programs: "), "{said}");
+        let mut tally = Tally::requiring(names.map(str::to_string).to_vec());
+        count_answers(&requests, &responses, &mut tally);
+        assert_eq!(tally.check(), Ok(()));
     }
 
     #[test]
     fn counts_codes_over_8() {
         // One of the codes is 8, and one image is refused before its code is looked at.
-        let risen = [(8, 1), (9, 1), (2, 1)];
         let calls = [
-            (request::new(Format::Standard), [5, 0, 0, 0], 0),
-            (request::receive(0, &[0x96, 0xEC]), [4, 0, 4, 0], 1),
-            (request::receive(0, &[0x96, 0xE8]), [4, 0, 5, 0], 2),
-            (request::receive(0, &[0x96, 0xEF]), [2, 0, 0, 0], 3),
-            (request::receive(9, &[0x96, 0xEF]), [4, 0, 9, 0], 3),
+            (request::new(Format::Standard), [5, 0, 0, 0]),
+            (request::receive(0, &[0x96, 0xEC]), [4, 0, 4, 0]),
+            (request::receive(0, &[0x96, 0xE8]), [4, 0, 5, 0]),
+            (request::receive(0, &[0x96, 0xEF]), [2, 0, 0, 0]),
+            (request::receive(9, &[0x96, 0xEF]), [4, 0, 9, 0]),
         ];
-        let calls = calls.into_iter().map(|(request, answer, count)| {
-            let tallies = tallies(&risen[..count]);
-            (request, response(answer, tallies))
-        });
-        let (requests, responses): (Vec<_>, Vec<_>) = calls.unzip();
+        let (requests, responses): (Vec<_>, Vec<_>) = calls.into_iter().unzip();
+        let responses: Vec<Vec<u8>> = responses.iter().map(|answer| answer.to_vec()).collect();
         let is_counted = |judged: &str| {
             let row = row(Format::Standard, 0, &of_code(judged));
-            let mut occurred = Occurred::requiring(vec![row]);
-            count_answers(&requests, &responses, &mut occurred).unwrap();
-            occurred.check().is_ok()
+            let mut tally = Tally::requiring(vec![row]);
+            count_answers(&requests, &responses, &mut tally);
+            tally.check().is_ok()
         };
         assert!(is_counted("refused 4") && is_counted("sound"));
         assert!(!is_counted("refused 5") && !is_counted("refused 9"));

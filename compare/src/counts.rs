@@ -1,11 +1,10 @@
 //! Compares what becomes of every count code before every number of data bytes, one too many included, with every flag:
 //! judged, received at both fronts, and listed. What L3 and L4 say of each case stands here too, so that programs that
-//! are wrong alike are told; what L5 says of the tallies stands in `rise`.
+//! are wrong alike are told.
 
 use crate::exchange;
-use crate::occurred::Occurred;
 use crate::request::{self, judged, Request, BY_COUNT, CLOSED, COLLECTING, DONE, IDLE};
-use crate::rise::{slots, Expected};
+use crate::tally::Tally;
 use crate::trace::write_record;
 use crate::traces::{list, list_also, Programs, Way};
 use second::format::Format;
@@ -60,9 +59,9 @@ pub fn compare(programs: &Programs, calls: &Path) -> Result<(), String> {
 /// What became of the images.
 struct Counts {
     /// By code, flag and number of data bytes; too many to be printed.
-    cases: Occurred,
+    cases: Tally,
     /// All flags and numbers of data bytes together.
-    results: Occurred,
+    results: Tally,
 }
 
 impl Counts {
@@ -76,8 +75,8 @@ impl Counts {
             cases.extend(every_case(most).map(|case| case_row(way, format, case)));
         }
         Counts {
-            cases: Occurred::requiring(cases),
-            results: Occurred::requiring(results),
+            cases: Tally::requiring(cases),
+            results: Tally::requiring(results),
         }
     }
 
@@ -269,9 +268,7 @@ fn count_calls(
     counts: &mut Counts,
 ) -> Result<usize, String> {
     let mut images = 0;
-    let mut tallies = Expected::new();
     for (place, request) in requests.iter().enumerate() {
-        tallies.follow(request, &responses[place])?;
         if let Some(image) = image_of(request) {
             let mut result = judged(&responses[place]);
             if request[0] == request::RECEIVE && result != "sound" && is_changed(responses, place) {
@@ -286,8 +283,8 @@ fn count_calls(
 
 /// Whether the slots, or the slot's area, are other after an image than before it.
 fn is_changed(responses: &[Vec<u8>], place: usize) -> bool {
-    slots(&responses[place - 1]) != slots(&responses[place])
-        || responses[place - 2] != responses[place + 1]
+    let slots = |place: usize| &responses[place][4..];
+    slots(place - 1) != slots(place) || responses[place - 2] != responses[place + 1]
 }
 
 /// The image that is judged or received.
@@ -475,14 +472,6 @@ mod tests {
                     "{said}"
                 );
             }
-        }
-    }
-
-    #[test]
-    fn a_tally_that_is_not_raised_is_told() {
-        for way in [0, 1] {
-            let said = said_of(way, 164 + 8 * 13 + 7, 0).expect("a difference");
-            assert!(said.contains("refused 25 is"), "{said}");
         }
     }
 

@@ -3,10 +3,9 @@
 use crate::calls::keep_script;
 use crate::exchange;
 use crate::observe::answers;
-use crate::occurred::Occurred;
 use crate::program::{self, drip};
 use crate::request::{self, answer, encode, judged, name, refused, Request, BY_COUNT, FULL_STORE};
-use crate::rise;
+use crate::tally::Tally;
 use crate::trace::{read_record, Trace};
 use second::format::Format;
 use second::interface::fields_of;
@@ -25,7 +24,7 @@ const SMALL_PARTS: &str = "input: written in small parts";
 
 /// Has the program receive the records of that many traces and compares each response with the second program's.
 pub fn compare(calls: &Path, count: u64, seed: u64, keep: Option<&Path>) -> Result<(), String> {
-    let mut occurred = Occurred::requiring(names());
+    let mut tally = Tally::requiring(names());
     let mut records = 0;
     for number in 0..count {
         let trace = Trace::generate(seed, number);
@@ -33,7 +32,7 @@ pub fn compare(calls: &Path, count: u64, seed: u64, keep: Option<&Path>) -> Resu
         let told = |difference| format!("seed {seed}, trace {number}: {difference}");
         for front in FRONTS {
             let script = script(&trace, front).map_err(told)?;
-            compare_one(calls, &script, part, &mut occurred).map_err(|difference| {
+            compare_one(calls, &script, part, &mut tally).map_err(|difference| {
                 let bytes = encode(&script.requests);
                 let kept = keep.map_or(String::new(), |file| keep_script(file, &bytes));
                 told(format!("front {front}: {difference}{kept}"))
@@ -41,8 +40,8 @@ pub fn compare(calls: &Path, count: u64, seed: u64, keep: Option<&Path>) -> Resu
         }
         records += trace.records;
     }
-    occurred.print();
-    occurred.check()?;
+    tally.print();
+    tally.check()?;
     println!("equal: {count} traces, {records} records, at each front");
     Ok(())
 }
@@ -88,12 +87,11 @@ fn compare_one(
     calls: &Path,
     script: &Script,
     part: usize,
-    occurred: &mut Occurred,
+    tally: &mut Tally,
 ) -> Result<(), String> {
     let requests = &script.requests;
     let expected = exchange::by_second(requests, &[])?;
     check_listed(script, &expected)?;
-    rise::check(requests, &expected)?;
     let bytes = encode(requests);
     program::run(
         &mut Command::new(calls),
@@ -106,17 +104,17 @@ fn compare_one(
     )?;
     for (request, response) in requests.iter().zip(&expected) {
         if [request::OPEN, request::RECEIVE].contains(&request[0]) {
-            occurred.count(&row(script.front, request[0], &answer(response)));
+            tally.count(&row(script.front, request[0], &answer(response)));
         }
         if request[0] == request::RECEIVE && is_over_8(&request[2..], Format::Extended) {
             let judged = judged(response);
             if BY_COUNT.contains(&judged.as_str()) {
-                occurred.count(&row(script.front, request::RECEIVE, &of_code(&judged)));
+                tally.count(&row(script.front, request::RECEIVE, &of_code(&judged)));
             }
         }
     }
     if part < usize::MAX {
-        occurred.count(SMALL_PARTS);
+        tally.count(SMALL_PARTS);
     }
     Ok(())
 }

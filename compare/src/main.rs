@@ -9,20 +9,16 @@ mod full;
 mod log;
 mod make;
 mod observe;
-mod occurred;
 mod pieces;
 mod program;
-mod reports;
 mod request;
-mod rise;
 mod script;
 mod step;
-mod tallies;
+mod tally;
 mod trace;
 mod traces;
 mod wrong;
 
-use reports::Reports;
 use std::env;
 use std::io;
 use std::path::Path;
@@ -37,8 +33,6 @@ const USAGE: &str = "usage:
   compare full CALLS
   compare counts LISTING CALLS [--also COMMAND]
   compare calls CALLS COUNT SEED [--keep FILE]
-  compare tallies CALLS
-  compare reports REPORT COUNT SEED FOLDER [--also COMMAND]
   compare make N SEED >TRACE
   compare log <TRACE >LOG
   compare wrong PLACE <OUTPUT >OUTPUT";
@@ -69,14 +63,6 @@ fn run(arguments: &[&str]) -> Result<(), String> {
             let listing = Path::new(program);
             counts::compare(&Programs { listing, also }, Path::new(calls))
         }
-        ["reports", program, count, seed, folder] if keep.is_none() => {
-            let reports = Reports {
-                report: Path::new(program),
-                also,
-                folder: Path::new(folder),
-            };
-            reports::compare(&reports, number(count)?, number(seed)?)
-        }
         ["fronts", program, count, seed] if also.is_none() => {
             fronts::compare(Path::new(program), number(count)?, number(seed)?, keep)
         }
@@ -86,21 +72,21 @@ fn run(arguments: &[&str]) -> Result<(), String> {
         _ if keep.is_some() || also.is_some() => Err(USAGE.to_string()),
         ["pieces", program] => pieces::compare(Path::new(program)),
         ["full", program] => full::compare(Path::new(program)),
-        ["tallies", program] => tallies::compare(Path::new(program)),
-        _ => write(&arguments),
+        ["make", records, seed] => {
+            let made = make::make(number(records)?, number(seed)?, io::stdout().lock());
+            made.map_err(|error| error.to_string())
+        }
+        ["log"] => {
+            let logged = log::log(io::stdin().lock(), io::stdout().lock());
+            logged.map_err(|error| error.to_string())
+        }
+        ["wrong", place] => {
+            let place = Place::parse(place)?;
+            let made = wrong::wrong(place, io::stdin().lock(), io::stdout().lock());
+            made.map_err(|error| error.to_string())
+        }
+        _ => Err(USAGE.to_string()),
     }
-}
-
-/// What compares nothing: writes something to standard output.
-fn write(arguments: &[&str]) -> Result<(), String> {
-    let (input, output) = (io::stdin().lock(), io::stdout().lock());
-    let written = match arguments[..] {
-        ["make", records, seed] => make::make(number(records)?, number(seed)?, output),
-        ["log"] => log::log(input, output),
-        ["wrong", place] => wrong::wrong(Place::parse(place)?, input, output),
-        _ => return Err(USAGE.to_string()),
-    };
-    written.map_err(|error| error.to_string())
 }
 
 /// Takes an option and its value out of the arguments. One without a value stays there and is found wrong.
@@ -130,7 +116,7 @@ mod tests {
 
     #[test]
     fn refuses_what_it_does_not_know() {
-        let wrong: [&[&str]; 15] = [
+        let wrong: [&[&str]; 11] = [
             &[],
             &["listing"],
             &["log", "--also", "x"],
@@ -139,10 +125,6 @@ mod tests {
             &["fronts", "x", "1"],
             &["full", "x", "1"],
             &["full", "x", "--keep", "x"],
-            &["tallies"],
-            &["tallies", "x", "--also", "x"],
-            &["reports", "x", "1", "1"],
-            &["reports", "x", "1", "1", "x", "--keep", "x"],
             &["counts", "x"],
             &["counts", "x", "x", "--keep", "x"],
             &["traces", "x", "1", "1", "--keep"],

@@ -1,7 +1,7 @@
 //! What occurred in a run, as its listing shows it.
 
-use crate::occurred::Occurred;
 use crate::request::refused;
+use crate::tally::Tally;
 use second::refusal::Refusal;
 
 /// What a record can be answered, packets of all lengths together.
@@ -86,15 +86,15 @@ impl UnderWay {
 /// Follows one listing line by line.
 struct Observer<'a> {
     under_way: Vec<UnderWay>,
-    occurred: &'a mut Occurred,
+    tally: &'a mut Tally,
 }
 
 /// Counts what the lines of a listing show; of each record it is known whether its image has a count code of 9 to 15.
 /// Gives the number in the last line.
-pub fn observe(listing: &str, over_8: &[bool], occurred: &mut Occurred) -> Option<usize> {
+pub fn observe(listing: &str, over_8: &[bool], tally: &mut Tally) -> Option<usize> {
     let mut observer = Observer {
         under_way: Vec::new(),
-        occurred,
+        tally,
     };
     let mut records = None;
     for (place, line) in listing.lines().skip(1).enumerate() {
@@ -102,7 +102,7 @@ pub fn observe(listing: &str, over_8: &[bool], occurred: &mut Occurred) -> Optio
         let words: Vec<&str> = line.split(' ').collect();
         match words[..] {
             ["records", number] => records = number.parse().ok(),
-            [_, "stopped"] => observer.occurred.count(STOPPED),
+            [_, "stopped"] => observer.tally.count(STOPPED),
             [_, _, "refused", number] => observer.no_frame(number, over_8),
             [_, bus, p, s, g, d, flag, number, f, count, ref answer @ ..] => observer.line(&Line {
                 bus,
@@ -113,7 +113,7 @@ pub fn observe(listing: &str, over_8: &[bool], occurred: &mut Occurred) -> Optio
                 over_8,
                 answer,
             }),
-            _ => observer.occurred.count("line of another form"),
+            _ => observer.tally.count("line of another form"),
         }
     }
     records
@@ -122,29 +122,29 @@ pub fn observe(listing: &str, over_8: &[bool], occurred: &mut Occurred) -> Optio
 impl Observer<'_> {
     /// An image that is refused before it belongs to a stream.
     fn no_frame(&mut self, number: &str, over_8: bool) {
-        self.occurred.count(&format!("refused {number}"));
+        self.tally.count(&format!("refused {number}"));
         if over_8 && number.parse() == Ok(Refusal::Count.number()) {
-            self.occurred.count(CODE_REFUSED);
+            self.tally.count(CODE_REFUSED);
         }
     }
 
     fn line(&mut self, line: &Line) {
         self.pass_by(line);
         if line.over_8 && line.count == "8" {
-            self.occurred.count(CODE_LISTED);
+            self.tally.count(CODE_LISTED);
         }
         match *line.answer {
             ["packet", length] => {
-                self.occurred.count("packet");
+                self.tally.count("packet");
                 self.packet(line, length);
             }
             ["packet", length, "broke"] => {
-                self.occurred.count("packet broke");
+                self.tally.count("packet broke");
                 self.packet(line, length);
             }
             ["refused", number] => self.refused(line, number),
             _ => {
-                self.occurred.count(&line.answer.join(" "));
+                self.tally.count(&line.answer.join(" "));
                 self.kept(line);
             }
         }
@@ -177,7 +177,7 @@ impl Observer<'_> {
 
     fn middle(&mut self, line: &Line) {
         if line.number == "0" {
-            self.occurred.count(WRAPPED);
+            self.tally.count(WRAPPED);
         }
         let mut under_way = self.under_way.iter_mut();
         if let Some(own) = under_way.find(|packet| packet.has_key(line)) {
@@ -188,7 +188,7 @@ impl Observer<'_> {
     fn packet(&mut self, line: &Line, length: &str) {
         let ended = self.forget(line);
         if line.flag == "3" {
-            self.occurred.count(&format!("single of {length} bytes"));
+            self.tally.count(&format!("single of {length} bytes"));
             return;
         }
         let length: usize = length.parse().unwrap_or(0);
@@ -205,17 +205,17 @@ impl Observer<'_> {
         ];
         for (holds, name) in facts {
             if holds {
-                self.occurred.count(name);
+                self.tally.count(name);
             }
         }
     }
 
     fn refused(&mut self, line: &Line, number: &str) {
-        self.occurred.count(&format!("refused {number}"));
+        self.tally.count(&format!("refused {number}"));
         let is = |refusal: Refusal| number.parse() == Ok(refusal.number());
         match (line.flag, line.number) {
-            ("2", _) if is(Refusal::Orphan) => self.occurred.count(ORPHAN_END),
-            (_, "0") if is(Refusal::Long) => self.occurred.count(LONG_0),
+            ("2", _) if is(Refusal::Orphan) => self.tally.count(ORPHAN_END),
+            (_, "0") if is(Refusal::Long) => self.tally.count(LONG_0),
             _ => {}
         }
         // After STEP and LONG the stream is idle; after ORPHAN it held nothing.
@@ -237,9 +237,9 @@ mod tests {
     }
 
     fn missing_with_codes(listing: &str, over_8: &[bool]) -> String {
-        let mut occurred = Occurred::requiring(names());
-        observe(listing, over_8, &mut occurred);
-        occurred.check().expect_err("a short listing lacks much")
+        let mut tally = Tally::requiring(names());
+        observe(listing, over_8, &mut tally);
+        tally.check().expect_err("a short listing lacks much")
     }
 
     #[test]
@@ -277,8 +277,8 @@ mod tests {
         ] {
             assert!(!missing.contains(name), "{name}");
         }
-        let mut occurred = Occurred::requiring(Vec::new());
-        assert_eq!(observe(listing, &[], &mut occurred), Some(5));
+        let mut tally = Tally::requiring(Vec::new());
+        assert_eq!(observe(listing, &[], &mut tally), Some(5));
     }
 
     #[test]

@@ -1,9 +1,9 @@
 //! Compares splitting at every packet size of both formats.
 
 use crate::exchange;
-use crate::occurred::Occurred;
 use crate::program;
 use crate::request::{self, answer, encode, name, refused, Request};
+use crate::tally::Tally;
 use second::format::Format;
 use second::refusal::Refusal;
 use second::split;
@@ -18,7 +18,7 @@ const SEED: u64 = 43_671;
 /// Puts one script to both programs. It is made twice, once to be fed and once to be compared, since it is
 /// too large to be held.
 pub fn compare(calls: &Path) -> Result<(), String> {
-    let mut occurred = Occurred::requiring(names());
+    let mut tally = Tally::requiring(names());
     let mut requests = 0;
     let feed = |input: &mut ChildStdin| {
         for (format, size) in batches() {
@@ -35,14 +35,14 @@ pub fn compare(calls: &Path) -> Result<(), String> {
                 format!("{} packets, size {size}: {difference}", keys::name(format))
             })?;
             for (request, response) in batch.iter().zip(&expected) {
-                occurred.count(&row(format, request[0], response));
+                tally.count(&row(format, request[0], response));
             }
             requests += batch.len();
         }
         exchange::at_end(&mut output)
     })?;
-    occurred.print();
-    occurred.check()?;
+    tally.print();
+    tally.check()?;
     println!("equal: 1 script, {requests} requests");
     Ok(())
 }

@@ -9,9 +9,8 @@ use std::time::{Duration, Instant};
 /// How long a run may take. A program that hangs must not hold up whoever runs it.
 const LIMIT: Duration = Duration::from_secs(60);
 
-/// How much is kept of what a program says on standard error, and how much of it is shown.
-const KEPT: u64 = 1 << 16;
-const SHOWN: usize = 200;
+/// How much is shown of what a program says on standard error.
+const SHOWN: u64 = 200;
 
 /// Runs the program: one thread feeds it while this one takes its output. A program that ends with
 /// another status than 0, or not at all, or that says something on standard error, is an error, even if
@@ -21,25 +20,15 @@ pub fn run<T>(
     feed: impl FnOnce(&mut ChildStdin) -> io::Result<()> + Send,
     take: impl FnOnce(&mut ChildStdout) -> Result<T, String>,
 ) -> Result<T, String> {
-    let name = command.get_program().to_string_lossy().into_owned();
-    match run_within(LIMIT, command, feed, take)? {
-        (taken, said) if said.is_empty() => Ok(taken),
-        (_, said) => Err(format!("{name} said: {:?}", shown(&said))),
-    }
+    run_within(LIMIT, command, feed, take)
 }
 
-/// Runs a program that has nothing to read and may say something, and gives its output and what it said.
-pub fn run_saying(command: &mut Command) -> Result<(Vec<u8>, Vec<u8>), String> {
-    run_within(LIMIT, command, |_| Ok(()), take_all)
-}
-
-/// Gives what was taken, and what the program said.
 fn run_within<T>(
     limit: Duration,
     command: &mut Command,
     feed: impl FnOnce(&mut ChildStdin) -> io::Result<()> + Send,
     take: impl FnOnce(&mut ChildStdout) -> Result<T, String>,
-) -> Result<(T, Vec<u8>), String> {
+) -> Result<T, String> {
     let name = command.get_program().to_string_lossy().into_owned();
     let (child, mut input, mut output, errors) =
         start(command).map_err(|error| format!("{name} can't be started: {error}"))?;
@@ -67,16 +56,12 @@ fn run_within<T>(
         let said = listener.join().expect("the listener doesn't panic");
         (fed, taken, end, said)
     });
-    let said = said.map_err(|error| format!("{name}: {error}"))?;
-    match outcome(&name, fed, taken, end) {
-        Ok(taken) => Ok((taken, said)),
-        Err(error) if said.is_empty() => Err(error),
-        Err(error) => Err(format!("{error}\n  {name} said: {:?}", shown(&said))),
+    let result = outcome(&name, fed, taken, end);
+    match (said.map_err(|error| format!("{name}: {error}"))?, result) {
+        (said, result) if said.is_empty() => result,
+        (said, Ok(_)) => Err(format!("{name} said: {said:?}")),
+        (said, Err(error)) => Err(format!("{error}\n  {name} said: {said:?}")),
     }
-}
-
-fn shown(said: &[u8]) -> String {
-    String::from_utf8_lossy(&said[..said.len().min(SHOWN)]).into_owned()
 }
 
 /// What was taken, if nothing went wrong.
@@ -106,11 +91,11 @@ fn start(command: &mut Command) -> io::Result<(Child, ChildStdin, ChildStdout, C
 }
 
 /// Takes all that is said, so that a program that says much doesn't wait, and gives the first of it.
-fn listen(mut errors: impl Read) -> io::Result<Vec<u8>> {
+fn listen(mut errors: impl Read) -> io::Result<String> {
     let mut first = Vec::new();
-    errors.by_ref().take(KEPT).read_to_end(&mut first)?;
+    errors.by_ref().take(SHOWN).read_to_end(&mut first)?;
     io::copy(&mut errors, &mut io::sink())?;
-    Ok(first)
+    Ok(String::from_utf8_lossy(&first).into_owned())
 }
 
 /// A program may stop reading early, at a damaged record.
@@ -209,14 +194,6 @@ mod tests {
         // It is told beside another error, too.
         let found = run("echo oh >&2; exit 3").unwrap_err();
         assert!(found.contains("ended with exit status: 3\n  sh said: \"oh\\n\""));
-    }
-
-    #[test]
-    fn what_a_program_says_is_given_where_it_may() {
-        let found = run_saying(&mut shell("echo out; echo no such file >&2"));
-        let said = b"no such file\n".to_vec();
-        assert_eq!(found, Ok((b"out\n".to_vec(), said)));
-        assert!(run_saying(&mut shell("echo oh >&2; exit 3")).is_err());
     }
 
     #[test]

@@ -19,7 +19,6 @@ pub const STORE: u8 = 10;
 pub const FILL: u8 = 11;
 pub const FRONT: u8 = 12;
 pub const JUDGE: u8 = 13;
-pub const TALLY: u8 = 31;
 
 /// The size of the bytes that both programs hold, of which a part is lent.
 pub const HELD: usize = 40_000;
@@ -120,12 +119,6 @@ pub fn judge(format: Format, image: &[u8]) -> Request {
     request
 }
 
-pub fn tally(index: usize, value: u64) -> Request {
-    let mut request = vec![TALLY, index as u8];
-    request.extend(value.to_be_bytes());
-    request
-}
-
 /// The requests as they are fed to a program.
 pub fn encode(requests: &[Request]) -> Vec<u8> {
     let mut bytes = Vec::new();
@@ -164,7 +157,6 @@ pub fn name(operation: u8) -> &'static str {
         FILL => "FILL",
         FRONT => "FRONT",
         JUDGE => "JUDGE",
-        TALLY => "TALLY",
         _ => "unknown",
     }
 }
@@ -235,7 +227,6 @@ mod tests {
         assert_eq!(fill(3, 5), [11, 3, 5]);
         assert_eq!(front(1), [12, 1]);
         assert_eq!(judge(Format::Standard, &[5, 6]), [13, 1, 5, 6]);
-        assert_eq!(tally(13, 258), [31, 13, 0, 0, 0, 0, 0, 0, 1, 2]);
     }
 
     #[test]

@@ -1,11 +1,9 @@
 //! Generates scripts of calls on a station: mostly frames received, among all the other calls.
 
 use crate::request::{self, Request, CLOSED, COLLECTING, DONE, FULL_STORE, HELD, IDLE};
-use crate::rise::TALLIES;
 use second::format::Format;
 use second::key::Key;
 use testkit::keys::{any_fields, any_key, bad_key, different_keys, other, NO_BUSES};
-use testkit::tallies::{any_tally, FULL};
 use testkit::traffic::{Noise, Sizes, Traffic};
 use testkit::Random;
 
@@ -20,8 +18,6 @@ pub const UNSOUND: [&str; 5] = [
 pub const MALFORMED: &str = "malformed request";
 pub const CUT_SHORT: &str = "script that ends inside a request";
 pub const LENT_OTHER: &str = "RECEIVE, store of another size lent";
-pub const FULL_TALLY: &str = "RECEIVE, a tally at its largest value";
-pub const NEARLY_FULL: &str = "RECEIVE, a tally one below its largest value";
 pub const WHOLE_STORE: &str = "all bytes asked for";
 
 /// A script and what the generator knows of it.
@@ -40,7 +36,7 @@ pub struct Note {
 }
 
 /// Operations that neither program knows. The program knows some that the second one doesn't.
-const UNKNOWN: [u8; 5] = [0, 32, 33, 128, 255];
+const UNKNOWN: [u8; 5] = [0, 31, 32, 128, 255];
 
 /// Images in scripts are up to this long, two over the longest sound one.
 const LONGEST_IMAGE: usize = 15;
@@ -218,7 +214,7 @@ impl Writer {
     }
 
     fn other_call(&mut self) {
-        match self.random.below(124) {
+        match self.random.below(110) {
             0..=17 => self.read(),
             18..=29 => self.open_some(),
             30..=38 => self.close(),
@@ -230,9 +226,6 @@ impl Writer {
             91..=96 => self.malformed(),
             97 => self.renew(),
             98 | 99 => self.fill(),
-            100..=103 => self.any_tallies(),
-            104..=108 => self.full_tally(),
-            109..=113 => self.nearly_full(),
             _ => self.any_front(),
         }
     }
@@ -402,54 +395,6 @@ impl Writer {
         }
     }
 
-    /// Sets tallies at which images go on: one, or all.
-    fn any_tallies(&mut self) {
-        let one = self.random.below(TALLIES.len());
-        let all = self.random.chance(200);
-        for place in (0..TALLIES.len()).filter(|&place| all || place == one) {
-            let value = any_tally(&mut self.random);
-            self.push(request::tally(place, value));
-        }
-    }
-
-    /// Sets a tally to its largest value for some calls, receiving among them: only that is refused, and other refusals
-    /// may come before.
-    fn full_tally(&mut self) {
-        let place = self.random.below(TALLIES.len());
-        self.push(request::tally(place, FULL));
-        self.note(FULL_TALLY);
-        for _ in 0..self.random.within(0, 3) {
-            self.any_call();
-        }
-        self.receive();
-        match self.random.below(5) {
-            0 => self.unsound_slot(),
-            1 => self.other_store(),
-            _ => {}
-        }
-        let value = any_tally(&mut self.random);
-        self.push(request::tally(place, value));
-    }
-
-    /// Sets a tally, or all, to one below the largest value for some images: the one that fills it is the last that is
-    /// judged.
-    fn nearly_full(&mut self) {
-        let one = self.random.below(TALLIES.len());
-        let all = self.random.chance(500);
-        let places = (0..TALLIES.len()).filter(|&place| all || place == one);
-        for place in places.clone() {
-            self.push(request::tally(place, FULL - 1));
-        }
-        self.note(NEARLY_FULL);
-        for _ in 0..self.random.within(1, 6) {
-            self.receive();
-        }
-        for place in places {
-            let value = any_tally(&mut self.random);
-            self.push(request::tally(place, value));
-        }
-    }
-
     fn part_of_store(&mut self) {
         let from = self.random.within(0, HELD);
         let size = self.random.within(0, (HELD - from).min(3000));
@@ -508,7 +453,6 @@ impl Writer {
             request::store(0, 10),
             request::fill(1, 1),
             request::front(1 - self.front),
-            request::tally(place % TALLIES.len(), 7),
         ];
         let which = self.random.below(sound.len());
         let mut request = sound[which].clone();
@@ -526,7 +470,7 @@ impl Writer {
     fn ruled_out(&mut self, key: &Key) -> Request {
         // As a front it is ruled out, too.
         let bad_format = self.random.pick(&[2, 3, 128, 255]);
-        let mut request = match self.random.below(13) {
+        let mut request = match self.random.below(12) {
             0 => return vec![request::NEW, bad_format],
             1 => return vec![request::COUNT, bad_format, 0, 0, 0, 0, 0, 0, 0, 9],
             2 => return request::slot(self.random.within(16, 255), IDLE, 0, key, 0),
@@ -539,9 +483,8 @@ impl Writer {
                     .to_vec()
             }
             8 => return request::front(bad_format),
-            9 => return request::tally(self.random.within(TALLIES.len(), 255), 7),
-            10 => request::open(key, 0),
-            11 => request::slot(0, self.random.below(4) as u8, 8, key, 0),
+            9 => request::open(key, 0),
+            10 => request::slot(0, self.random.below(4) as u8, 8, key, 0),
             _ => request::piece(&key.fields, 0, 0, 13, &[1, 2, 3]),
         };
         let place = match request[0] {
@@ -557,7 +500,6 @@ impl Writer {
 #[cfg(test)]
 mod tests {
     use super::*;
-    use std::collections::HashMap;
 
     #[test]
     fn the_seed_and_number_fix_the_script() {
@@ -651,34 +593,9 @@ mod tests {
     }
 
     #[test]
-    fn a_full_tally_meets_an_image_and_is_set_back() {
-        for number in 0..200 {
-            let profile = Profile::draw(&mut Random::new(number));
-            let mut writer = Writer::new(Format::Extended, &profile, Random::new(number));
-            for step in [Writer::full_tally, Writer::nearly_full] {
-                writer.script.requests.clear();
-                step(&mut writer);
-                let requests = &writer.script.requests;
-                let mut set: HashMap<u8, u64> = HashMap::new();
-                let mut met = false;
-                for request in requests {
-                    match request[..] {
-                        [request::TALLY, place, ref value @ ..] => {
-                            set.insert(place, u64::from_be_bytes(value.try_into().unwrap()));
-                        }
-                        [request::RECEIVE, ..] => met |= set.values().any(|&v| v >= FULL - 1),
-                        _ => {}
-                    }
-                }
-                assert!(met && !set.values().any(|&value| value >= FULL - 1));
-            }
-        }
-    }
-
-    #[test]
     fn no_operation_of_the_protocol_is_taken_as_unknown() {
         for operation in UNKNOWN {
-            assert!(!(1..=31).contains(&operation));
+            assert!(!(1..=30).contains(&operation));
         }
     }
 
@@ -718,7 +635,6 @@ mod tests {
                 request::STORE => u32::from(from(1)) + u32::from(from(3)) > 40_000,
                 request::RECEIVE => request.len() == 1,
                 request::FRONT => request[1] > 1,
-                request::TALLY => request[1] > 13,
                 _ => request.len() < 10 || request[1] > 1,
             };
             assert!(ruled_out, "{request:?}");

@@ -28,7 +28,6 @@ pub const DENSE: &str = "dense trace";
 const DENSE_RECORDS: usize = 40_000;
 
 /// A generated trace and what the generator knows of it.
-#[derive(Clone)]
 pub struct Trace {
     pub bytes: Vec<u8>,
     /// The records before the damage, if there is any.

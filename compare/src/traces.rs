@@ -1,9 +1,9 @@
 //! Compares the listings of generated traces.
 
 use crate::observe;
-use crate::occurred::Occurred;
 use crate::program::{self, drip, take_all};
 use crate::step::{self, Steps};
+use crate::tally::Tally;
 use crate::trace::{Trace, DAMAGES, DENSE};
 use std::fs;
 use std::io::{self, Read, Write};
@@ -37,19 +37,19 @@ pub fn compare(
     seed: u64,
     keep: Option<&Path>,
 ) -> Result<(), String> {
-    let mut occurred = Occurred::requiring(names(programs));
+    let mut tally = Tally::requiring(names(programs));
     let mut records = 0;
     for number in 0..count {
         let trace = Trace::generate(seed, number);
-        compare_one(programs, &trace, &mut occurred, seed, number).map_err(|difference| {
+        compare_one(programs, &trace, &mut tally, seed, number).map_err(|difference| {
             let kept = keep.map_or(String::new(), |file| keep_trace(file, &trace.bytes));
             format!("seed {seed}, trace {number}: {difference}{kept}")
         })?;
-        count_known(&trace, &mut occurred);
+        count_known(&trace, &mut tally);
         records += trace.records;
     }
-    occurred.print();
-    occurred.check()?;
+    tally.print();
+    tally.check()?;
     println!("equal: {count} traces, {records} records");
     Ok(())
 }
@@ -81,7 +81,7 @@ fn also_row(also: &str) -> String {
 fn compare_one(
     programs: &Programs,
     trace: &Trace,
-    occurred: &mut Occurred,
+    tally: &mut Tally,
     seed: u64,
     number: u64,
 ) -> Result<(), String> {
@@ -89,11 +89,11 @@ fn compare_one(
     let second = list(programs, &trace.bytes, &way)?;
     if let Some(also) = programs.also.filter(|_| number.is_multiple_of(ALSO_EVERY)) {
         list_also(also, &trace.bytes, &second)?;
-        occurred.count(&also_row(also));
+        tally.count(&also_row(also));
     }
-    count_way(&way, occurred);
+    count_way(&way, tally);
     let text = String::from_utf8(second).map_err(|_| "the listings are no text")?;
-    let records = observe::observe(&text, &trace.over_8, occurred);
+    let records = observe::observe(&text, &trace.over_8, tally);
     if records != Some(trace.records) {
         return Err(format!(
             "both listings say {records:?}, but the trace has {} records",
@@ -118,7 +118,7 @@ pub fn list_also(also: &str, trace: &[u8], second: &[u8]) -> Result<(), String> 
 }
 
 /// A command from its words.
-pub fn split(words: &str) -> Command {
+fn split(words: &str) -> Command {
     let mut words = words.split_whitespace();
     let mut command = Command::new(words.next().unwrap_or_default());
     command.args(words);
@@ -179,8 +179,8 @@ fn by_second(trace: &[u8], way: &Way) -> Result<Vec<u8>, String> {
     Ok(output)
 }
 
-/// Refuses two outputs that differ, each with the name of its program, and shows the first line that does.
-pub fn check_equal(first: (&str, &[u8]), second: (&str, &[u8])) -> Result<(), String> {
+/// Refuses two listings that differ, each with the name of its program, and shows the first line that does.
+fn check_equal(first: (&str, &[u8]), second: (&str, &[u8])) -> Result<(), String> {
     if first.1 == second.1 {
         return Ok(());
     }
@@ -201,15 +201,15 @@ pub fn check_equal(first: (&str, &[u8]), second: (&str, &[u8])) -> Result<(), St
     }
 }
 
-fn count_way(way: &Way, occurred: &mut Occurred) {
+fn count_way(way: &Way, tally: &mut Tally) {
     match way {
         Way::AtOnce => {}
-        Way::Parts(_) => occurred.count(SMALL_PARTS),
+        Way::Parts(_) => tally.count(SMALL_PARTS),
         Way::LockStep(steps) => {
-            occurred.count(LOCK_STEP);
-            occurred.count_times(LOCK_STEP_RECORDS, steps.records() as u64);
-            occurred.count_times(LOCK_STEP_CUT, steps.in_two_parts() as u64);
-            occurred.count_times(LOCK_STEP_OPEN, u64::from(steps.stays_open()));
+            tally.count(LOCK_STEP);
+            tally.count_times(LOCK_STEP_RECORDS, steps.records() as u64);
+            tally.count_times(LOCK_STEP_CUT, steps.in_two_parts() as u64);
+            tally.count_times(LOCK_STEP_OPEN, u64::from(steps.stays_open()));
         }
     }
 }
@@ -223,18 +223,18 @@ fn keep_trace(file: &Path, bytes: &[u8]) -> String {
 }
 
 /// Counts what only the generator knows.
-fn count_known(trace: &Trace, occurred: &mut Occurred) {
+fn count_known(trace: &Trace, tally: &mut Tally) {
     for note in &trace.notes {
-        occurred.count(&format!("made: {note}"));
+        tally.count(&format!("made: {note}"));
     }
     for (length, &times) in trace.lengths.iter().enumerate() {
-        occurred.count_times(&format!("made: image of {length} bytes"), times);
+        tally.count_times(&format!("made: image of {length} bytes"), times);
     }
     if let Some(damage) = trace.damage {
-        occurred.count(&format!("damage: {damage}"));
+        tally.count(&format!("damage: {damage}"));
     }
     if trace.bytes.is_empty() {
-        occurred.count(EMPTY);
+        tally.count(EMPTY);
     }
 }
 

@@ -21,11 +21,7 @@ macro_rules! made_up {
 
 made_up!(u8 as u8, u16 as u16, u32 as u32, usize as usize);
 made_up!(&[u8] as Bytes, &mut [u8] as Bytes);
-made_up!(
-    &[u8; 8] as [u8; 8],
-    &mut usize as Place<usize>,
-    &mut u64 as Place<u64>
-);
+made_up!(&[u8; 8] as [u8; 8], &mut usize as Place);
 
 /// An argument as a call has it.
 pub trait Value {
@@ -262,87 +258,61 @@ impl<'h> Hand<'h, &'h [u8; 8]> for HeldBytes {
     }
 }
 
-/// The numbers that have places. They have eight bytes, as fuzz/replay.c reads them.
-pub trait Placed: Copy {
-    /// What a place holds before a call.
-    const BEFORE: Self;
+/// What a place holds before a call.
+const BEFORE: usize = 0x5AA5_C33C_0FF0_9669;
 
-    /// The bytes of a place that holds it.
-    fn in_place(self) -> [u8; 8];
-
-    fn low_byte_first(self) -> [u8; 8];
-}
-
-macro_rules! placed {
-    ($($number:ty),*) => {$(
-        impl Placed for $number {
-            const BEFORE: $number = 0x5AA5_C33C_0FF0_9669;
-
-            fn in_place(self) -> [u8; 8] {
-                self.to_ne_bytes()
-            }
-
-            fn low_byte_first(self) -> [u8; 8] {
-                self.to_le_bytes()
-            }
-        }
-    )*};
-}
-
-placed!(usize, u64);
-
-impl<N: Placed> Value for Place<N> {
+impl Value for Place {
     fn shown(&self) -> String {
         String::new()
     }
 
     fn record(&self, to: &mut Vec<u8>) {
-        to.extend(N::BEFORE.low_byte_first());
+        to.extend(BEFORE.to_le_bytes());
     }
 }
 
-impl<N: Placed> Hold for Place<N> {
-    type Held = HeldPlace<N>;
+impl Hold for Place {
+    type Held = HeldPlace;
 
-    fn hold(&self, name: &'static str, _: &mut Parts) -> HeldPlace<N> {
+    fn hold(&self, name: &'static str, _: &mut Parts) -> HeldPlace {
         HeldPlace {
             name,
-            number: N::BEFORE,
+            number: BEFORE,
             at: ptr::null_mut(),
         }
     }
 }
 
 /// A number that a call may write: the model's, and where the library's is.
-pub struct HeldPlace<N> {
+pub struct HeldPlace {
     name: &'static str,
-    number: N,
-    at: *mut N,
+    number: usize,
+    at: *mut usize,
 }
 
-impl<N: Placed> Held for HeldPlace<N> {
+impl Held for HeldPlace {
     fn lend(&mut self, lents: &mut Lents) {
-        let bytes = self.number.in_place();
+        let bytes = self.number.to_ne_bytes();
         self.at = lents.lend_aligned(self.name, &bytes).cast();
     }
 
     fn compare(&self, lents: &Lents) -> Result<(), Difference> {
-        lents.compare(self.name, &self.number.in_place())
+        lents.compare(self.name, &self.number.to_ne_bytes())
     }
 
     fn record_after(&self, to: &mut Vec<u8>) {
-        to.extend(self.number.low_byte_first());
+        to.extend(self.number.to_le_bytes());
     }
 }
 
-impl<N> Raw<*mut N> for HeldPlace<N> {
-    fn raw(&self) -> *mut N {
+impl Raw<*mut usize> for HeldPlace {
+    fn raw(&self) -> *mut usize {
         self.at
     }
 }
 
-impl<'h, N> Hand<'h, &'h mut N> for HeldPlace<N> {
-    fn hand(&'h mut self) -> &'h mut N {
+impl<'h> Hand<'h, &'h mut usize> for HeldPlace {
+    fn hand(&'h mut self) -> &'h mut usize {
         &mut self.number
     }
 }

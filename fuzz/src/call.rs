@@ -1,7 +1,6 @@
 //! The calls with their arguments, and how they are printed.
 
 use std::fmt;
-use std::marker::PhantomData;
 
 use crate::argument::{MadeUp, Value};
 use crate::library::{Function, FUNCTIONS};
@@ -30,8 +29,8 @@ pub const MASTER: Bytes = Bytes::Lasting(Part::Master);
 pub const WATCH: Bytes = Bytes::Lasting(Part::Watch);
 
 /// The place of a number that a call may write.
-#[derive(Clone, Copy, Debug, Default, PartialEq, Eq)]
-pub struct Place<N>(PhantomData<N>);
+#[derive(Clone, Copy, Debug, PartialEq, Eq)]
+pub struct Place;
 
 macro_rules! call {
     ($(
@@ -120,20 +119,11 @@ mod tests {
             station: STATION,
             store: Bytes::Own(vec![0xB7; 999]),
             slot: 3,
-            start: Place::default(),
+            start: Place,
         };
         assert_eq!(
             call.to_string(),
             "siljuvatt_read(station, store 999 bytes, all B7, slot 3, start)"
-        );
-        let call = Call::tally {
-            station: STATION,
-            index: 13,
-            value: Place::default(),
-        };
-        assert_eq!(
-            call.to_string(),
-            "siljuvatt_tally(station, index 13, value)"
         );
         assert_eq!(Call::version {}.to_string(), "siljuvatt_version()");
     }

@@ -8,9 +8,9 @@ use crate::call::Call;
 use crate::crash;
 use crate::library::Library;
 use crate::memory::Layout;
-use crate::occurred::{Before, Occurred};
 use crate::record::Recorder;
 use crate::sequence::{Sequence, Step};
+use crate::tally::{Before, Tally};
 
 /// What is run.
 #[derive(Clone, Debug)]
@@ -67,18 +67,18 @@ pub fn run<L: Library, W: Write>(
     library: L,
     options: &Options,
     recorder: &mut Option<Recorder<W>>,
-) -> Result<Occurred, Box<Failure>> {
+) -> Result<Tally, Box<Failure>> {
     // Comparing 32 KiB at each call is cheap but for valgrind.
     let store_every = if options.heap { 64 } else { 1 };
     let mut bench = Bench::new(library, store_every, recorder.is_some());
-    let mut occurred = Occurred::new();
+    let mut tally = Tally::new();
     let mut number = options.sequence.unwrap_or(0);
     loop {
-        run_sequence(&mut bench, options, number, &mut occurred, recorder)?;
-        occurred.sequences += 1;
+        run_sequence(&mut bench, options, number, &mut tally, recorder)?;
+        tally.sequences += 1;
         number += 1;
-        if options.sequence.is_some() || occurred.calls >= options.calls {
-            return Ok(occurred);
+        if options.sequence.is_some() || tally.calls >= options.calls {
+            return Ok(tally);
         }
     }
 }
@@ -87,7 +87,7 @@ fn run_sequence<L: Library, W: Write>(
     bench: &mut Bench<L>,
     options: &Options,
     number: u64,
-    occurred: &mut Occurred,
+    tally: &mut Tally,
     recorder: &mut Option<Recorder<W>>,
 ) -> Result<(), Box<Failure>> {
     let mut sequence = Sequence::new(options.seed, number);
@@ -106,13 +106,13 @@ fn run_sequence<L: Library, W: Write>(
         match step {
             Step::Set(part, bytes, note) => {
                 bench.set(part, &bytes);
-                note.into_iter().for_each(|note| occurred.note(note));
+                note.into_iter().for_each(|note| tally.note(note));
                 recorder.iter_mut().for_each(|to| to.set(part, &bytes));
             }
             Step::Call(call) => {
                 place.number += 1;
                 place.call = Some(call);
-                make(bench, options, &mut place, occurred, recorder)?;
+                make(bench, options, &mut place, tally, recorder)?;
             }
         }
     }
@@ -129,7 +129,7 @@ fn make<L: Library, W: Write>(
     bench: &mut Bench<L>,
     options: &Options,
     place: &mut Place,
-    occurred: &mut Occurred,
+    tally: &mut Tally,
     recorder: &mut Option<Recorder<W>>,
 ) -> Result<(), Box<Failure>> {
     // Of the parts only those that are printed are kept.
@@ -148,7 +148,7 @@ fn make<L: Library, W: Write>(
     let made = crash::during(place, || bench.make(call));
     match made {
         Ok(outcome) => {
-            occurred.count(call, &before, outcome.answer);
+            tally.count(call, &before, outcome.answer);
             let record = &outcome.record;
             recorder.iter_mut().for_each(|to| to.call(record));
             Ok(())

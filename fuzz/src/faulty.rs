@@ -6,7 +6,6 @@ use std::process::Command;
 use std::{env, ptr, slice};
 
 use second::interface::{self, refused, KEPT, MASTER_SIZE, SEND, STATION_SIZE};
-use second::interface::{TALLIES_AT, TALLY_SIZE};
 use second::refusal::Refusal;
 use second::station::STORE_SIZE;
 use second::stream::AREA_SIZE;
@@ -18,7 +17,7 @@ use crate::crash;
 use crate::driver::{run, Failure, Options};
 use crate::huge;
 use crate::library::{lent, Library, Raw, RawAnswer, FUNCTIONS, WITH_LENGTH};
-use crate::occurred::Occurred;
+use crate::tally::Tally;
 
 /// A buffer that a call was lent.
 #[derive(Clone, Copy)]
@@ -98,21 +97,15 @@ impl<'a> Seen<'a> for &'a [u8; 8] {
     }
 }
 
-macro_rules! seen_in_place {
-    ($($number:ty),*) => {$(
-        impl<'a> Seen<'a> for &'a mut $number {
-            unsafe fn seen(raw: *mut $number, _: usize) -> &'a mut $number {
-                &mut *raw
-            }
+impl<'a> Seen<'a> for &'a mut usize {
+    unsafe fn seen(raw: *mut usize, _: usize) -> &'a mut usize {
+        &mut *raw
+    }
 
-            fn lent(raw: &*mut $number, _: usize) -> Option<(*mut u8, usize)> {
-                Some((raw.cast(), size_of::<$number>()))
-            }
-        }
-    )*};
+    fn lent(raw: &*mut usize, _: usize) -> Option<(*mut u8, usize)> {
+        Some((raw.cast(), size_of::<usize>()))
+    }
 }
-
-seen_in_place!(usize, u64);
 
 /// What a faulty library does after a call that the model made: it may spoil buffers, and it gives the answer.
 type Spoil = Box<dyn Fn(&[Lent], u32) -> u32>;
@@ -187,7 +180,7 @@ fn options(calls: u64) -> Options {
 fn run_faulty(
     function: &'static str,
     spoil: impl Fn(&[Lent], u32) -> u32 + 'static,
-) -> Result<Occurred, Box<Failure>> {
+) -> Result<Tally, Box<Failure>> {
     let library = Faulty::new(function, spoil);
     run::<_, Sink>(library, &options(30_000), &mut None)
 }
@@ -202,9 +195,9 @@ fn noticed(function: &'static str, spoil: impl Fn(&[Lent], u32) -> u32 + 'static
 
 #[test]
 fn without_a_fault_nothing_is_noticed() {
-    let occurred =
+    let tally =
         run_faulty("none", |_, answer| answer + 1).unwrap_or_else(|failure| panic!("{failure}"));
-    assert!(occurred.calls >= 30_000);
+    assert!(tally.calls >= 30_000);
 }
 
 #[test]
@@ -249,74 +242,6 @@ fn images_too_short_and_too_long_taken_for_each_other_or_for_sound() {
         };
         assert_eq!(difference, expected);
     }
-}
-
-#[test]
-fn an_image_judged_though_a_tally_is_full_or_refused_though_none_is() {
-    let full = refused(Refusal::Tally);
-    for (right, wrong) in [(full, KEPT << 16), (KEPT << 16, full)] {
-        let difference = noticed("receive", move |_, answer| match answer == right {
-            true => wrong,
-            false => answer,
-        });
-        let expected = Difference::Answer {
-            expected: right,
-            got: wrong,
-        };
-        assert_eq!(difference, expected);
-    }
-}
-
-/// What becomes of a tally.
-type Change = fn(u64) -> u64;
-
-/// The difference where the bytes of a tally are changed after an image that was kept.
-fn noticed_in_tally(tally: usize, change: Change) -> Difference {
-    noticed("receive", move |lent, answer| {
-        if answer == KEPT << 16 {
-            // SAFETY: a station that answers so has all its bytes.
-            unsafe {
-                let at = lent[0]
-                    .at
-                    .add(TALLIES_AT + TALLY_SIZE * tally)
-                    .cast::<u64>();
-                at.write_unaligned(change(at.read_unaligned()));
-            }
-        }
-        answer
-    })
-}
-
-#[test]
-fn a_tally_that_does_not_rise_rises_by_two_or_another_that_rises_too() {
-    const OF_KEPT: usize = 2;
-    let changes: [(usize, Change); 4] = [
-        (OF_KEPT, |tally| tally - 1),
-        (OF_KEPT, |tally| tally.wrapping_add(1)),
-        (OF_KEPT + 1, |tally| tally.wrapping_add(1)),
-        (13, |tally| tally ^ 1 << 63),
-    ];
-    for (tally, change) in changes {
-        let difference = noticed_in_tally(tally, change);
-        let from = TALLIES_AT + TALLY_SIZE * tally;
-        let bytes = from..from + TALLY_SIZE;
-        assert!(
-            matches!(difference, Difference::Byte { name: "station", at, .. } if bytes.contains(&at)),
-            "{difference}"
-        );
-    }
-}
-
-#[test]
-fn a_value_written_by_a_refused_tally() {
-    let difference = noticed("tally", |lent, answer| {
-        if answer >= 0x8000_0000 {
-            // SAFETY: value is one uint64_t.
-            unsafe { ptr::write(lent[1].at.cast::<u64>(), 0) };
-        }
-        answer
-    });
-    assert!(matches!(difference, Difference::Byte { name: "value", .. }));
 }
 
 /// Every function that is lent a buffer, with the names of those.

@@ -72,10 +72,7 @@ impl<L: Library> Huge<'_, L> {
         let got = unsafe { library.receive(station, length, store, STORE_SIZE, 0, image, 5) };
         self.refused("receive: station", Refusal::State, got)?;
         let got = unsafe { library.read(station, length, store, STORE_SIZE, 0, &mut start) };
-        self.refused("read: station", Refusal::State, got)?;
-        let mut value = 0;
-        let got = unsafe { library.tally(station, length, 0, &mut value) };
-        self.refused("tally: station", Refusal::State, got)
+        self.refused("read: station", Refusal::State, got)
     }
 
     fn lent_to_stations(&mut self) -> Result<(), String> {

@@ -3,7 +3,7 @@
 //!
 //! `sequence` and the modules with `calls` in their names make the calls up, `mutate` the states that they are given;
 //! `bench` makes them and compares, argument by `argument`, in `memory` that shows what is touched outside; `huge` is
-//! for lengths over 2^32; `occurred` counts the cases; `record` writes the calls for fuzz/replay.c. `library`, `call`,
+//! for lengths over 2^32; `tally` counts the cases; `record` writes the calls for fuzz/replay.c. `library`, `call`,
 //! `bench` and `faulty` take the calls from their one declaration, so that a new one needs there nothing of its own.
 
 pub mod argument;
@@ -16,11 +16,11 @@ pub mod library;
 pub mod master_calls;
 pub mod memory;
 pub mod mutate;
-pub mod occurred;
 pub mod plain_calls;
 pub mod record;
 pub mod sequence;
 pub mod station_calls;
+pub mod tally;
 pub mod watch_calls;
 
 #[cfg(test)]

@@ -78,7 +78,6 @@ mod tests {
         assert!(lent[Function::version as usize].is_empty());
         let of_read = WITH_LENGTH.iter().filter(|of| of.0 == "read");
         assert!(of_read.eq(&[("read", "station"), ("read", "store")]));
-        assert_eq!(lent[Function::tally as usize], ["station", "value"]);
     }
 
     /// In the header's order, so that a look at one finds the other.

@@ -9,11 +9,11 @@ use fuzz::crash;
 use fuzz::driver::{run, Options};
 use fuzz::huge;
 use fuzz::library::Linked;
-use fuzz::occurred::Occurred;
 use fuzz::record::Recorder;
+use fuzz::tally::Tally;
 
-/// With so many calls, pieces of packets of every size have come up, and every tally was raised to its largest value.
-const ENOUGH: u64 = 3_000_000;
+/// With so many calls, pieces of packets of every size have come up.
+const ALL_SIZES: u64 = 3_000_000;
 
 const USAGE: &str = "usage: fuzz [--calls N] [--seed S] [--sequence K] [--heap] [--record]
   --calls N     so many calls, up to the end of a sequence (default 1000000)
@@ -42,9 +42,9 @@ fn main() -> ExitCode {
     let mut recorder = record.then(|| Recorder::new(BufWriter::new(io::stdout().lock())));
     let result = run(Linked, &options, &mut recorder);
     match result {
-        Ok(occurred) => {
-            recorder.map(|recorder| recorder.finish(occurred.calls));
-            report(&options, &occurred, begin.elapsed().as_secs_f64())
+        Ok(tally) => {
+            recorder.map(|recorder| recorder.finish(tally.calls));
+            report(&options, &tally, begin.elapsed().as_secs_f64())
         }
         Err(failure) => {
             eprintln!("fuzz: a difference: {failure}");
@@ -78,19 +78,9 @@ fn options(mut words: impl Iterator<Item = String>) -> Option<(Options, bool)> {
     Some((options, record))
 }
 
-/// What never came up of that which takes many calls.
-fn left_out(occurred: &Occurred) -> Vec<String> {
-    let sizes = occurred.sizes_left_out();
-    let sizes = (sizes > 0).then(|| format!("never came up: pieces of {sizes} packet sizes"));
-    let tallies = occurred.tallies_left_out().into_iter();
-    let tallies =
-        tallies.map(|tally| format!("never came up: tally of {tally} raised to 2^64 - 1"));
-    sizes.into_iter().chain(tallies).collect()
-}
-
 /// Prints the counts; a case that can come up and did not is a failure.
-fn report(options: &Options, occurred: &Occurred, seconds: f64) -> ExitCode {
-    let (calls, sequences) = (occurred.calls, occurred.sequences);
+fn report(options: &Options, tally: &Tally, seconds: f64) -> ExitCode {
+    let (calls, sequences) = (tally.calls, tally.sequences);
     let mut said = io::stderr().lock();
     let line = format!(
         "equal: {calls} calls in {sequences} sequences, seed {}, {seconds:.1} s",
@@ -100,10 +90,11 @@ fn report(options: &Options, occurred: &Occurred, seconds: f64) -> ExitCode {
         let _ = writeln!(said, "{line}");
         return ExitCode::SUCCESS;
     }
-    let _ = write!(said, "{}", occurred.table());
-    let mut faults = occurred.faults();
-    if options.calls >= ENOUGH {
-        faults.extend(left_out(occurred));
+    let _ = write!(said, "{}", tally.table());
+    let mut faults = tally.faults();
+    let left_out = tally.sizes_left_out();
+    if options.calls >= ALL_SIZES && left_out > 0 {
+        faults.push(format!("never came up: pieces of {left_out} packet sizes"));
     }
     for fault in &faults {
         let _ = writeln!(said, "fuzz: {fault}");

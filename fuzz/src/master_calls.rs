@@ -7,8 +7,8 @@ use testkit::Random;
 
 use crate::call::{Call, Part, MASTER};
 use crate::mutate::{mutate, sound_master, unsound_master, MASTER_WAYS};
-use crate::occurred::{List, Note};
 use crate::sequence::{Step, Steps};
+use crate::tally::{List, Note};
 
 /// What a sequence does with its master.
 pub struct MasterCalls {

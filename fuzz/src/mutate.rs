@@ -1,15 +1,12 @@
 //! States that are sound, and states made of them that mostly are not.
 
 use second::format::Format;
-use second::interface::{master_bytes, station_bytes, watch_bytes, MASTER_SIZE, WATCH_SIZE};
-use second::interface::{FORMAT_AT, LAYOUT_AT, TALLIES_AT};
+use second::interface::{master_bytes, station_bytes, watch_bytes, MASTER_SIZE, STATION_SIZE};
 use second::key::Key;
 use second::master::{Exchange, Kind, Master};
 use second::station::{Slot, Station, SLOT_COUNT};
 use second::stream::State;
-use second::tally::{Tallies, TALLY_COUNT};
 use second::watch::Watch;
-use testkit::tallies::{any_tally, FULL};
 use testkit::Random;
 
 /// The numbers of a record, as the header gives them.
@@ -27,20 +24,8 @@ pub const WAYS: [&str; 5] = [
     "another length",
 ];
 
-/// What the tallies of a sound station are set to.
-pub const TALLY_WAYS: [&str; 4] = [
-    "any tallies",
-    "a tally at 2^64 - 1",
-    "a tally at 2^64 - 2",
-    "every tally at 2^64 - 2",
-];
-
-/// The way in which images are refused at once, and that in which the next one judged is the last.
-pub const FULL_TALLY: usize = 1;
-pub const EVERY_NEARLY_FULL: usize = 3;
-
-/// A record of a station made one that no station writes, or all of it another release's.
-pub const STATION_WAYS: [&str; 13] = [
+/// A record of a station made one that no station writes.
+pub const STATION_WAYS: [&str; 12] = [
     "closed slot with a key",
     "closed slot with bytes held",
     "idle slot with bytes held",
@@ -53,7 +38,6 @@ pub const STATION_WAYS: [&str; 13] = [
     "format over 1",
     "other format with an open slot",
     "another layout",
-    "the former release's",
 ];
 
 /// A master made one that none writes.
@@ -70,21 +54,9 @@ pub const MASTER_WAYS: [&str; 7] = [
 /// A watch made one that none writes: any two times are sound.
 pub const WATCH_WAYS: [&str; 1] = ["another layout"];
 
-/// Tallies in the way of that number, given those as they are.
-pub fn set_tallies(tallies: &mut Tallies, way: usize, random: &mut Random) {
-    let one = random.below(TALLY_COUNT);
-    match way {
-        0 => *tallies = Tallies(std::array::from_fn(|_| any_tally(random))),
-        FULL_TALLY => tallies.0[one] = FULL,
-        EVERY_NEARLY_FULL => *tallies = Tallies([FULL - 1; TALLY_COUNT]),
-        _ => tallies.0[one] = FULL - 1,
-    }
-}
-
-/// A sound station with some of the keys open, in any state and any slot, and any tallies.
+/// A sound station with some of the keys open, in any state and any slot.
 pub fn sound_station(format: Format, keys: &[Key], random: &mut Random) -> Station {
     let mut station = Station::new(format);
-    set_tallies(&mut station.tallies, 0, random);
     let open = random.within(0, keys.len().min(SLOT_COUNT));
     for key in &keys[..open] {
         let mut slot = random.below(SLOT_COUNT);
@@ -180,13 +152,9 @@ pub fn unsound_station(format: Format, keys: &[Key], way: usize, random: &mut Ra
     station.slots[closed] = Slot::Closed;
     let mut bytes = station_bytes(&station).to_vec();
     match way {
-        9 => bytes[FORMAT_AT] = random.within(2, 255) as u8,
-        10 => bytes[FORMAT_AT] ^= 1,
-        11 => change_layout(&mut bytes[LAYOUT_AT], random),
-        12 => {
-            bytes.truncate(TALLIES_AT);
-            bytes[LAYOUT_AT] = 1;
-        }
+        9 => bytes[STATION_SIZE - 2] = random.within(2, 255) as u8,
+        10 => bytes[STATION_SIZE - 2] ^= 1,
+        11 => change_layout(&mut bytes, random),
         _ => {
             let place = if matches!(way, 0 | 1 | 8) {
                 closed
@@ -201,10 +169,11 @@ pub fn unsound_station(format: Format, keys: &[Key], way: usize, random: &mut Ra
     bytes
 }
 
-/// Gives the byte of a layout's number another value, mostly one next to its own.
-fn change_layout(layout: &mut u8, random: &mut Random) {
+/// Gives the last byte another value, mostly one next to its own.
+fn change_layout(bytes: &mut [u8], random: &mut Random) {
+    let last = bytes.len() - 1;
     let difference = random.within(1, 255) as u8;
-    *layout ^= random.pick(&[1, 3, 255, difference]);
+    bytes[last] ^= random.pick(&[1, 3, 255, difference]);
 }
 
 /// The two numbers of a record that is wrong in the way of that number; the key's is that of an open slot.
@@ -294,7 +263,7 @@ pub fn unsound_master(way: usize, random: &mut Random) -> Vec<u8> {
             bytes[kind..=sends].copy_from_slice(&[number, 0, 0]);
             bytes[sends] = random.pick(&[0, over, 255]);
         }
-        _ => change_layout(&mut bytes[MASTER_SIZE - 1], random),
+        _ => change_layout(&mut bytes, random),
     }
     bytes
 }
@@ -310,14 +279,14 @@ pub fn sound_watch(random: &mut Random) -> Watch {
 /// A watch that no calls hand back.
 pub fn unsound_watch(random: &mut Random) -> Vec<u8> {
     let mut bytes = watch_bytes(&sound_watch(random)).to_vec();
-    change_layout(&mut bytes[WATCH_SIZE - 1], random);
+    change_layout(&mut bytes, random);
     bytes
 }
 
 #[cfg(test)]
 mod tests {
     use super::*;
-    use second::interface::{master_of, station_of, watch_of, STATION_SIZE};
+    use second::interface::{master_of, station_of, watch_of, WATCH_SIZE};
     use testkit::keys::{different_keys, FORMATS};
 
     fn is_sound_station(bytes: &[u8]) -> bool {
@@ -351,8 +320,7 @@ mod tests {
                 for _ in 0..300 {
                     let keys = different_keys(format, 8, &mut random);
                     let bytes = unsound_station(format, &keys, way, &mut random);
-                    let former = *name == "the former release's";
-                    assert_eq!(bytes.len(), if former { 130 } else { STATION_SIZE });
+                    assert_eq!(bytes.len(), STATION_SIZE);
                     assert!(!is_sound_station(&bytes), "{name}");
                 }
             }
@@ -368,20 +336,6 @@ mod tests {
             let bytes = unsound_watch(&mut random);
             assert_eq!(bytes.len(), WATCH_SIZE);
             assert!(watch_of(&bytes).is_none());
-        }
-    }
-
-    #[test]
-    fn tallies_are_set_in_every_way() {
-        let mut random = Random::new(4);
-        for way in 0..TALLY_WAYS.len() {
-            for _ in 0..100 {
-                let mut tallies = Tallies::new();
-                set_tallies(&mut tallies, way, &mut random);
-                assert_eq!(tallies.any_full(), way == FULL_TALLY);
-                let next_to_full = tallies.0.iter().filter(|&&tally| tally == FULL - 1);
-                assert_eq!(next_to_full.count(), [0, 0, 1, TALLY_COUNT][way]);
-            }
         }
     }
 

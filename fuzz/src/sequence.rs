@@ -10,9 +10,9 @@ use crate::bench::Parts;
 use crate::call::{Call, Part};
 use crate::master_calls::{self, MasterCalls};
 use crate::memory::Layout;
-use crate::occurred::Note;
 use crate::plain_calls;
 use crate::station_calls::StationCalls;
+use crate::tally::Note;
 use crate::watch_calls;
 
 /// What is done next.

@@ -3,19 +3,17 @@
 use second::format::Format;
 use second::interface::{station_bytes, station_of, STATION_SIZE};
 use second::key::Key;
-use second::station::{Slot, Station, SLOT_COUNT, STORE_SIZE};
+use second::station::{Slot, Station, STORE_SIZE};
 use second::stream::State;
-use second::tally::TALLY_COUNT;
 use testkit::damage::LONGEST;
 use testkit::keys::{self, any_fields, different_keys, field_bytes, number, NO_BUSES};
 use testkit::traffic::{Noise, Sizes, Traffic};
 use testkit::{Random, FORMATS};
 
 use crate::call::{Bytes, Call, Part, Place, STATION, STORE};
-use crate::mutate::{mutate, set_tallies, sound_station, unsound_station};
-use crate::mutate::{EVERY_NEARLY_FULL, FULL_TALLY, STATION_WAYS, TALLY_WAYS};
-use crate::occurred::{List, Note};
+use crate::mutate::{mutate, sound_station, unsound_station, STATION_WAYS};
 use crate::sequence::{Step, Steps};
+use crate::tally::{List, Note};
 
 /// What a sequence does with its station.
 pub struct StationCalls {
@@ -79,12 +77,6 @@ impl StationCalls {
             return self.push_new(random, steps);
         }
         let station = station_of(station);
-        // No image is judged any more; now and then they go on.
-        if let Some(full) = station.filter(|station| station.tallies.any_full()) {
-            if random.chance(200) {
-                return push_tallies(full, 0, random, steps);
-            }
-        }
         let call = match random.chance(self.others) {
             true => self.other_call(station.as_ref(), random),
             false => {
@@ -113,8 +105,7 @@ impl StationCalls {
 
     fn other_call(&self, station: Option<&Station>, random: &mut Random) -> Call {
         match random.below(100) {
-            0..=9 => tally(any_index(random)),
-            10..=44 => {
+            0..=44 => {
                 let store = any_store(random);
                 match station.and_then(done_slot) {
                     Some(slot) if random.chance(500) => read(store, slot),
@@ -141,33 +132,18 @@ impl StationCalls {
 
     /// Other bytes in the station's place for some calls: sound ones to go on with, or others.
     fn put_in_place(&mut self, station: &[u8], random: &mut Random, steps: &mut Steps) {
-        match random.below(16) {
-            0..=3 => match station_of(station) {
-                Some(station) => self.put_tallies(station, random, steps),
-                None => self.put_sound(random, steps),
-            },
-            4..=6 => self.put_sound(random, steps),
-            _ => self.put_others(station, random, steps),
-        }
-    }
-
-    /// A sound station to go on with.
-    fn put_sound(&mut self, random: &mut Random, steps: &mut Steps) {
-        let mut sound = sound_station(self.format, &self.keys, random);
-        // Next to a limit of its slots, too, an image may fill its tally.
         if random.chance(250) {
-            set_tallies(&mut sound.tallies, EVERY_NEARLY_FULL, random);
+            let sound = sound_station(self.format, &self.keys, random);
+            self.traffic.follow(&sound);
+            let bytes = station_bytes(&sound).to_vec();
+            steps.push_back(Step::Set(
+                Part::Station,
+                bytes,
+                Some(Note(List::SoundStation, 0)),
+            ));
+            let slot = done_slot(&sound);
+            return steps.extend(slot.map(|slot| Step::Call(read(STORE, slot))));
         }
-        self.traffic.follow(&sound);
-        let bytes = station_bytes(&sound).to_vec();
-        let note = Note(List::SoundStation, 0);
-        steps.push_back(Step::Set(Part::Station, bytes, Some(note)));
-        let slot = done_slot(&sound);
-        steps.extend(slot.map(|slot| Step::Call(read(STORE, slot))));
-    }
-
-    /// A station that is mostly not sound, for some calls.
-    fn put_others(&mut self, station: &[u8], random: &mut Random, steps: &mut Steps) {
         let (bytes, note) = match random.chance(400) {
             true => {
                 let way = random.below(STATION_WAYS.len());
@@ -195,40 +171,17 @@ impl StationCalls {
         }
     }
 
-    /// Other tallies, and the slots as they are. While one is full some calls are made, of which only receiving is
-    /// refused, and then the tallies are any again.
-    fn put_tallies(&mut self, station: Station, random: &mut Random, steps: &mut Steps) {
-        let way = random.below(TALLY_WAYS.len());
-        push_tallies(station, way, random, steps);
-        if way == FULL_TALLY {
-            for _ in 0..random.within(1, 3) {
-                let call = self.any_call(random);
-                steps.push_back(Step::Call(call));
-            }
-            push_tallies(station, 0, random, steps);
-        }
-    }
-
     /// Any of the calls, each about as often.
     fn any_call(&mut self, random: &mut Random) -> Call {
-        match random.below(11) {
+        match random.below(10) {
             0..=2 => self.receive(random),
             3 | 4 => new(random.pick(&[0, 1, 2])),
             5 => read(any_store(random), any_slot(random)),
             6 => close(any_slot(random)),
             7 => self.bad_open(random),
-            8 => tally(any_index(random)),
             _ => open(&random.pick(&self.keys)),
         }
     }
-}
-
-/// Puts the station in place with tallies set in the way of that number.
-fn push_tallies(mut station: Station, way: usize, random: &mut Random, steps: &mut Steps) {
-    set_tallies(&mut station.tallies, way, random);
-    let bytes = station_bytes(&station).to_vec();
-    let note = Note(List::Tallies, way);
-    steps.push_back(Step::Set(Part::Station, bytes, Some(note)));
 }
 
 /// A slot that has a packet, the longest of all.
@@ -276,15 +229,7 @@ fn read(store: Bytes, slot: usize) -> Call {
         station: STATION,
         store,
         slot,
-        start: Place::default(),
-    }
-}
-
-fn tally(index: usize) -> Call {
-    Call::tally {
-        station: STATION,
-        index,
-        value: Place::default(),
+        start: Place,
     }
 }
 
@@ -305,29 +250,19 @@ fn any_store(random: &mut Random) -> Bytes {
     Bytes::Own(vec![0xB7; length])
 }
 
-/// Mostly one of the sixteen; else one that is none.
+/// Mostly one of the sixteen; else one that is none, among them such as 8, 16 or 32 bits cannot tell from one.
 fn any_slot(random: &mut Random) -> usize {
-    any_place(SLOT_COUNT, random)
-}
-
-/// Mostly the place of a tally; else one that is none.
-fn any_index(random: &mut Random) -> usize {
-    any_place(TALLY_COUNT, random)
-}
-
-/// Mostly one of so many; else one that is none, among them such as 8, 16 or 32 bits cannot tell from one.
-fn any_place(count: usize, random: &mut Random) -> usize {
-    let place = random.below(count);
+    let slot = random.below(16);
     match random.below(100) {
-        0..=89 => place,
-        90 | 91 => count,
-        92 => count + 1,
-        93 => place + 256,
-        94 => place + 65_536,
-        95 => place + (1 << 32),
-        96 => place + (1 << 63),
+        0..=89 => slot,
+        90 | 91 => 16,
+        92 => 17,
+        93 => slot + 256,
+        94 => slot + 65_536,
+        95 => slot + (1 << 32),
+        96 => slot + (1 << 63),
         97 => usize::MAX,
-        98 => usize::MAX - place,
+        98 => usize::MAX - slot,
         _ => random.next_u64() as usize,
     }
 }

@@ -6,8 +6,8 @@ use testkit::Random;
 
 use crate::call::{Call, Part, WATCH};
 use crate::mutate::{mutate, sound_watch, unsound_watch};
-use crate::occurred::{List, Note};
 use crate::sequence::{Step, Steps};
+use crate::tally::{List, Note};
 
 /// Puts the next steps in line.
 pub fn make_up(watch: &[u8], random: &mut Random, steps: &mut Steps) {

@@ -225,15 +225,11 @@ static void station_sizes(void)
     REFUSED(siljuvatt_read(STATION, store, SILJUVATT_STORE_SIZE, 0, &start), SILJUVATT_REFUSAL_NOPACKET);
 }
 
-/* Where the tallies begin: they are the last bytes of a station. The byte before them is the number of the layout. */
-#define TALLIES_AT (SILJUVATT_STATION_SIZE - 8 * SILJUVATT_TALLIES)
-
 /* Another layout than this release's is no station, whatever else is asked; nor is memory of zeros. */
 static void station_layout(void)
 {
-    uint8_t *layout = &station[TALLIES_AT - 1];
+    uint8_t *layout = &station[SILJUVATT_STATION_SIZE - 1];
     size_t start;
-    uint64_t value;
 
     NEW_STATION(SILJUVATT_EXTENDED);
     SAME(*layout, SILJUVATT_STATION_LAYOUT);
@@ -246,7 +242,6 @@ static void station_layout(void)
         REFUSED(siljuvatt_close(STATION, 0), SILJUVATT_REFUSAL_STATE);
         REFUSED(RECEIVE(SILJUVATT_BUS_A, NULL, 0), SILJUVATT_REFUSAL_STATE);
         REFUSED(siljuvatt_read(STATION, STORE, 0, &start), SILJUVATT_REFUSAL_STATE);
-        REFUSED(siljuvatt_tally(STATION, 0, &value), SILJUVATT_REFUSAL_STATE);
     }
 }
 
@@ -355,88 +350,6 @@ static void too_long(void)
         OF_KIND(RECEIVE(bus, image, length), SILJUVATT_KEPT);
     }
     REFUSED(RECEIVE(bus, end, sizeof end), SILJUVATT_REFUSAL_LONG);
-}
-
-/* ---- Tallies ---- */
-
-static uint64_t tally(size_t index)
-{
-    uint64_t value = 0;
-
-    SAME(siljuvatt_tally(STATION, index, &value), 0);
-    return value;
-}
-
-/* The tally that an image raised by one; 99 if it was not just one. */
-static uint32_t raised_by(uint8_t bus, const uint8_t *image, size_t length)
-{
-    uint64_t before[SILJUVATT_TALLIES];
-    uint32_t raised = 99, changed = 0;
-
-    for (size_t i = 0; i < SILJUVATT_TALLIES; i++) {
-        before[i] = tally(i);
-    }
-    SAME(RECEIVE(bus, image, length) == 0, false);
-    for (uint32_t i = 0; i < SILJUVATT_TALLIES; i++) {
-        uint64_t now = tally(i);
-        changed += now != before[i];
-        raised = now == before[i] + 1 ? i : raised;
-    }
-    return changed == 1 ? raised : 99;
-}
-
-#define RAISED_BY(image) raised_by(SILJUVATT_BUS_A, image, sizeof image)
-
-/* By what an image is answered. The stream is idle, and after a start it collects. */
-static void tallies_of_answers(void)
-{
-    const uint8_t single[] = {0x81, 0x45, 0x00, 0xC0, 0x10, 7};
-    const uint8_t start[] = {0x88, 0x45, 0x00, 0x40, 0x10, 1, 2, 3, 4, 5, 6, 7, 8};
-
-    NEW_STATION(SILJUVATT_EXTENDED);
-    SAME(siljuvatt_open(STATION, SILJUVATT_BUS_A, extended, SILJUVATT_EXTENDED_FIELDS), 0);
-    SAME(RAISED_BY(single), SILJUVATT_TALLY_PACKET);
-    SAME(RAISED_BY(start), SILJUVATT_TALLY_KEPT);
-    SAME(RAISED_BY(single), SILJUVATT_TALLY_PACKET_BROKE);
-    SAME(RAISED_BY(start), SILJUVATT_TALLY_KEPT);
-    SAME(RAISED_BY(start), SILJUVATT_TALLY_KEPT_BROKE);
-    SAME(raised_by(SILJUVATT_BUS_B, start, sizeof start), SILJUVATT_TALLY_FILTERED);
-}
-
-/* By the refusal of an image, on the stream that is collecting after tallies_of_answers(). */
-static void tallies_of_refusals(void)
-{
-    const uint8_t length[] = {0x81, 0x45, 0x00, 0xC0};
-    const uint8_t form[] = {0x91, 0x45, 0x00, 0xC0, 0x10, 7};
-    const uint8_t remote[] = {0xC1, 0x45, 0x00, 0xC0, 0x10, 7};
-    const uint8_t count[] = {0x82, 0x45, 0x00, 0xC0, 0x10, 7};
-    const uint8_t surplus[] = {0x80, 0x45, 0x00, 0xC0, 0x10, 7};
-    const uint8_t numbered_single[] = {0x81, 0x45, 0x00, 0xC1, 0x10, 7};
-    const uint8_t end_2[] = {0x81, 0x45, 0x00, 0x82, 0x10, 9};
-
-    SAME(RAISED_BY(length), SILJUVATT_TALLY_REFUSED_1);
-    SAME(RAISED_BY(form), SILJUVATT_TALLY_REFUSED_2);
-    SAME(RAISED_BY(remote), SILJUVATT_TALLY_REFUSED_3);
-    SAME(RAISED_BY(count), SILJUVATT_TALLY_REFUSED_4);
-    SAME(RAISED_BY(surplus), SILJUVATT_TALLY_REFUSED_25);
-    SAME(RAISED_BY(numbered_single), SILJUVATT_TALLY_REFUSED_5);
-    SAME(RAISED_BY(end_2), SILJUVATT_TALLY_REFUSED_7);
-    SAME(RAISED_BY(end_2), SILJUVATT_TALLY_REFUSED_6);
-}
-
-/* After too_long(), and then with a tally that stands at its largest value. */
-static void how_many_tallies(void)
-{
-    const uint8_t single[] = {0x81, 0x45, 0x00, 0xC0, 0x10, 7};
-    uint64_t value;
-
-    SAME(tally(SILJUVATT_TALLY_KEPT), 256);
-    SAME(tally(SILJUVATT_TALLY_REFUSED_8), 1);
-    REFUSED(siljuvatt_tally(STATION, SILJUVATT_TALLIES, &value), SILJUVATT_REFUSAL_INDEX);
-    SAME(tally(SILJUVATT_TALLIES - 1), 0);
-    memset(station + TALLIES_AT + 8 * (SILJUVATT_TALLIES - 1), 0xFF, 8);
-    SAME(tally(SILJUVATT_TALLIES - 1) == UINT64_MAX, true);
-    REFUSED(RECEIVE(SILJUVATT_BUS_A, single, sizeof single), SILJUVATT_REFUSAL_TALLY);
 }
 
 /* ---- Filters ---- */
@@ -655,10 +568,7 @@ int main(void)
     largest(SILJUVATT_STANDARD, standard, SILJUVATT_STANDARD_FIELDS, SILJUVATT_STANDARD_LIMIT);
     receiving();
     refused_images();
-    tallies_of_answers();
-    tallies_of_refusals();
     too_long();
-    how_many_tallies();
     row_size();
     id_of_any_pointer();
     master_size();

@@ -1,7 +1,6 @@
 /*
  * A bench in small: two boards send at the same time, one on each bus, and each board's packets come out whole.
- * Then a lost frame and how it is told, what became of all frames so far, a command that goes over to the other bus,
- * and a bus that falls silent.
+ * Then a lost frame and how it is told, a command that goes over to the other bus, and a bus that falls silent.
  *
  *     cc -std=c11 -I library/include library/c/example.c target/staticlib/libsiljuvatt.a -o example && ./example
  *
@@ -163,27 +162,6 @@ static void begin_again(const struct pieces *six)
     read_packet(1, serial_6);
 }
 
-/* How often each answer was given: the station has counted them. */
-static void count_answers(void)
-{
-    static const char *const names[SILJUVATT_TALLIES] = {
-        "packet",    "packet broke", "kept",      "kept broke", "filtered",  "refused 1", "refused 2",
-        "refused 3", "refused 4",    "refused 5", "refused 6",  "refused 7", "refused 8", "refused 25",
-    };
-    uint64_t sum = 0;
-
-    for (size_t i = 0; i < SILJUVATT_TALLIES; i++) {
-        uint64_t tally = 0;
-        uint32_t answer = siljuvatt_tally(station, sizeof station, i, &tally);
-        expect(!SILJUVATT_IS_REFUSED(answer), "a tally");
-        sum += tally;
-        if (tally > 0) {
-            printf("tally: %s %llu\n", names[i], (unsigned long long)tally);
-        }
-    }
-    expect(sum == 15, "one for each frame that was heard");
-}
-
 static void expect_send(uint32_t answer, uint8_t bus)
 {
     expect(!SILJUVATT_IS_REFUSED(answer) && SILJUVATT_KIND(answer) == SILJUVATT_SEND, "to send");
@@ -243,7 +221,6 @@ int main(void)
     receive_both(&five, &six);
     lose_a_piece(&six);
     begin_again(&six);
-    count_answers();
     command();
     silence();
     return 0;

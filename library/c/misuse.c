@@ -19,8 +19,8 @@ bool row_accepts(const uint8_t *bytes, const siljuvatt_row *row, uint16_t id)
 }
 
 #ifdef UNUSED_ANSWERS
-void ignore(uint8_t *bytes, size_t length, const siljuvatt_row *row, size_t *start, uint64_t *value);
-void ignore(uint8_t *bytes, size_t length, const siljuvatt_row *row, size_t *start, uint64_t *value)
+void ignore(uint8_t *bytes, size_t length, const siljuvatt_row *row, size_t *start);
+void ignore(uint8_t *bytes, size_t length, const siljuvatt_row *row, size_t *start)
 {
     siljuvatt_version();
     siljuvatt_piece_count(0, length);
@@ -30,7 +30,6 @@ void ignore(uint8_t *bytes, size_t length, const siljuvatt_row *row, size_t *sta
     siljuvatt_close(bytes, length, 0);
     siljuvatt_receive(bytes, length, bytes, length, 0, bytes, length);
     siljuvatt_read(bytes, length, bytes, length, 0, start);
-    siljuvatt_tally(bytes, length, 0, value);
     siljuvatt_filter_accepts(0, 0, 0);
     siljuvatt_row_accepts(row, 0);
     siljuvatt_master_new(bytes, length);

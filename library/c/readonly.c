@@ -1,9 +1,8 @@
 /*
  * A call that is refused stores nothing at all, not even what was there: it is made with its state, store and output in
- * pages that cannot be written. So is a check that resets nothing. An image that is refused, or that no slot is open
- * for, is counted: it is received with the tallies alone in a page that can be written. After STEP and LONG the
- * stream's record is idle too, so that they are made with the store alone in such pages. Stations are of both formats.
- * Prints each call that fails and ends with 1 if one does.
+ * pages that cannot be written. So is a check that resets nothing, and an image that no slot is open for. After STEP
+ * and LONG the stream's record is idle, so that they are made with the store alone in such pages. Stations are of both
+ * formats. Prints each call that fails and ends with 1 if one does.
  */
 #define _DEFAULT_SOURCE
 #include "siljuvatt.h"
@@ -16,19 +15,15 @@
 #include <unistd.h>
 
 struct lent {
+    uint8_t station[SILJUVATT_STATION_SIZE];
     uint8_t output[SILJUVATT_EXTENDED_IMAGE];
     uint8_t master[SILJUVATT_MASTER_SIZE];
     uint8_t watch[SILJUVATT_WATCH_SIZE];
     size_t start;
-    uint64_t value;
 };
 
-/* Where a station has its format, its layout and its tallies. */
-enum { FORMAT_AT = 128, LAYOUT_AT = 129, TALLIES_AT = 130 };
-
-/* The store has pages of its own. The station lies over the end of a page: its tallies are in the next one. */
+/* The store has pages of its own. */
 static struct lent *lent;
-static uint8_t *bank, *tallies, *station;
 static uint8_t *store;
 static size_t page;
 static sigjmp_buf before;
@@ -59,12 +54,9 @@ static void *map(size_t size)
     return mapped;
 }
 
-/* What may be done to the tallies, to the rest of the station and all else but the store, and to the store. */
-static void allow(int for_tallies, int for_rest, int for_store)
+static void allow(int for_lent, int for_store)
 {
-    if (mprotect(lent, in_pages(sizeof *lent), for_rest) != 0
-        || mprotect(bank, page, for_rest) != 0
-        || mprotect(tallies, page, for_tallies) != 0
+    if (mprotect(lent, in_pages(sizeof *lent), for_lent) != 0
         || mprotect(store, in_pages(SILJUVATT_STORE_SIZE), for_store) != 0) {
         perror("mprotect");
         _exit(1);
@@ -89,30 +81,23 @@ static void same(uint32_t answer, uint32_t expected, const char *call, int line)
 }
 
 /* The answer of the call, or UNWRITTEN, which is none, if it stored where it may not. */
-#define ALLOWED(for_tallies, for_rest, for_store, call, expected) \
+#define ALLOWED(for_lent, for_store, call, expected) \
     do { \
         volatile uint32_t answer = UNWRITTEN; \
-        allow(for_tallies, for_rest, for_store); \
+        allow(for_lent, for_store); \
         if (sigsetjmp(before, 1) == 0) { \
             answer = (call); \
         } \
-        allow(WRITABLE, WRITABLE, WRITABLE); \
+        allow(WRITABLE, WRITABLE); \
         same(answer, (expected), #call, __LINE__); \
     } while (0)
 
 #define REFUSAL(number) (UINT32_C(0x80000000) + (number))
-#define READ_ONLY(call, expected) ALLOWED(PROT_READ, PROT_READ, PROT_READ, call, expected)
+#define READ_ONLY(call, expected) ALLOWED(PROT_READ, PROT_READ, call, expected)
 #define REFUSED(call, number) READ_ONLY(call, REFUSAL(number))
 
-/* An image that is counted, and nothing else of it kept: the tallies alone can be written, and they have to be. */
-#define COUNTED(call, expected) \
-    do { \
-        READ_ONLY(call, UNWRITTEN); \
-        ALLOWED(WRITABLE, PROT_READ, PROT_READ, call, expected); \
-    } while (0)
-
 /* A refusal after which the stream is idle: the store alone cannot be written. */
-#define MADE_IDLE(call, number) ALLOWED(WRITABLE, WRITABLE, PROT_READ, call, REFUSAL(number))
+#define MADE_IDLE(call, number) ALLOWED(WRITABLE, PROT_READ, call, REFUSAL(number))
 
 /* A call that is not refused, with all of it open to writing. */
 #define MADE(call, expected) same((call), (expected), #call, __LINE__)
@@ -186,7 +171,7 @@ static const struct format standard = {
     },
 };
 
-#define STATION station, SILJUVATT_STATION_SIZE
+#define STATION lent->station, sizeof lent->station
 #define STORE store, SILJUVATT_STORE_SIZE
 #define RECEIVE(bus, image) siljuvatt_receive(STATION, STORE, bus, (image).bytes, (image).length)
 #define OPEN(bus, said) siljuvatt_open(STATION, bus, said, format->fields_length)
@@ -200,16 +185,10 @@ static uint32_t store_at(volatile uint8_t *byte)
 
 static void protection(void)
 {
-    uint8_t *first = station, *last = &station[SILJUVATT_STATION_SIZE - 1];
-
     READ_ONLY(store_at(store), UNWRITTEN);
-    READ_ONLY(store_at(first), UNWRITTEN);
-    READ_ONLY(store_at(last), UNWRITTEN);
-    ALLOWED(WRITABLE, PROT_READ, PROT_READ, store_at(&station[LAYOUT_AT]), UNWRITTEN);
-    ALLOWED(WRITABLE, PROT_READ, PROT_READ, store_at(&station[TALLIES_AT]), 0);
-    ALLOWED(WRITABLE, PROT_READ, PROT_READ, store_at(last), 0);
-    ALLOWED(WRITABLE, WRITABLE, PROT_READ, store_at(store), UNWRITTEN);
-    ALLOWED(WRITABLE, WRITABLE, PROT_READ, store_at(first), 0);
+    READ_ONLY(store_at(lent->station), UNWRITTEN);
+    ALLOWED(WRITABLE, PROT_READ, store_at(store), UNWRITTEN);
+    ALLOWED(WRITABLE, PROT_READ, store_at(lent->station), 0);
 }
 
 static void splitting(const struct format *format)
@@ -229,7 +208,7 @@ static void splitting(const struct format *format)
 
 static void bad_image(struct bad_image bad)
 {
-    COUNTED(RECEIVE(0, bad.image), REFUSAL(bad.number));
+    REFUSED(RECEIVE(0, bad.image), bad.number);
 }
 
 static void images(const struct format *format)
@@ -246,8 +225,8 @@ static void images(const struct format *format)
 
 static void orphans(const struct format *format)
 {
-    COUNTED(RECEIVE(0, format->later_middle), REFUSAL(SILJUVATT_REFUSAL_ORPHAN));
-    COUNTED(RECEIVE(0, format->end), REFUSAL(SILJUVATT_REFUSAL_ORPHAN));
+    REFUSED(RECEIVE(0, format->later_middle), SILJUVATT_REFUSAL_ORPHAN);
+    REFUSED(RECEIVE(0, format->end), SILJUVATT_REFUSAL_ORPHAN);
 }
 
 /* A start is kept, the image has another number than awaited, and the stream is idle. */
@@ -261,7 +240,7 @@ static void step(const struct format *format, struct image image)
 static void receiving(const struct format *format)
 {
     MADE(siljuvatt_station_new(STATION, format->number), 0);
-    COUNTED(RECEIVE(0, format->single), KIND(SILJUVATT_FILTERED));
+    READ_ONLY(RECEIVE(0, format->single), KIND(SILJUVATT_FILTERED));
     MADE(OPEN(0, format->fields), 0);
     images(format);
     orphans(format);
@@ -306,25 +285,6 @@ static void too_long(void)
     pass_limit(end);
 }
 
-/* A tally is told, and stands at its largest value: no image is let in, whatever would become of it. */
-static void full_tallies(const struct format *format)
-{
-    uint64_t value = 0;
-    size_t i;
-
-    READ_ONLY(siljuvatt_tally(STATION, SILJUVATT_TALLY_PACKET, &value), 0);
-    REFUSED(siljuvatt_tally(STATION, SILJUVATT_TALLIES, &lent->value), SILJUVATT_REFUSAL_INDEX);
-    for (i = 0; i < SILJUVATT_TALLIES; i++) {
-        memset(station + TALLIES_AT, 0, 8 * SILJUVATT_TALLIES);
-        memset(station + TALLIES_AT + 8 * i, 0xFF, 8);
-        REFUSED(RECEIVE(0, format->single), SILJUVATT_REFUSAL_TALLY);
-        REFUSED(RECEIVE(1, format->single), SILJUVATT_REFUSAL_TALLY);
-        REFUSED(RECEIVE(0, format->later_end), SILJUVATT_REFUSAL_TALLY);
-        REFUSED(RECEIVE(0, format->bad[0].image), SILJUVATT_REFUSAL_TALLY);
-    }
-    memset(station + TALLIES_AT, 0, 8 * SILJUVATT_TALLIES);
-}
-
 static void slots(const struct format *format)
 {
     uint8_t other[SILJUVATT_EXTENDED_FIELDS] = {1, 6, 0, 0, 2};
@@ -351,21 +311,20 @@ static void no_state(const struct format *format)
     REFUSED(OPEN(0, format->fields), SILJUVATT_REFUSAL_STATE);
     REFUSED(siljuvatt_close(STATION, 0), SILJUVATT_REFUSAL_STATE);
     REFUSED(siljuvatt_read(STATION, STORE, 0, &lent->start), SILJUVATT_REFUSAL_STATE);
-    REFUSED(siljuvatt_tally(STATION, 0, &lent->value), SILJUVATT_REFUSAL_STATE);
 }
 
 /* Another layout, no format, and records that are none. */
 static void unsound(const struct format *format)
 {
     REFUSED(siljuvatt_station_new(STATION, 2), SILJUVATT_REFUSAL_FIELD);
-    REFUSED(siljuvatt_station_new(station, SILJUVATT_STATION_SIZE - 1, format->number), SILJUVATT_REFUSAL_STATE);
-    station[LAYOUT_AT] = SILJUVATT_STATION_LAYOUT + 1;
+    REFUSED(siljuvatt_station_new(lent->station, SILJUVATT_STATION_SIZE - 1, format->number), SILJUVATT_REFUSAL_STATE);
+    lent->station[sizeof lent->station - 1] = SILJUVATT_STATION_LAYOUT + 1;
     no_state(format);
     MADE(siljuvatt_station_new(STATION, format->number), 0);
-    station[FORMAT_AT] = 2;
+    lent->station[sizeof lent->station - 2] = 2;
     no_state(format);
     MADE(siljuvatt_station_new(STATION, format->number), 0);
-    memset(station, 0xFF, SILJUVATT_SLOTS * 8);
+    memset(lent->station, 0xFF, SILJUVATT_SLOTS * 8);
     no_state(format);
 }
 
@@ -375,7 +334,6 @@ static void stations(const struct format *format)
 
     splitting(format);
     receiving(format);
-    full_tallies(format);
     slots(format);
     unsound(format);
     if (failures != failed) {
@@ -437,9 +395,6 @@ int main(void)
     sigaction(SIGBUS, &action, NULL);
     page = (size_t)sysconf(_SC_PAGESIZE);
     lent = map(sizeof *lent);
-    bank = map(2 * page);
-    tallies = bank + page;
-    station = tallies - TALLIES_AT;
     store = map(SILJUVATT_STORE_SIZE);
     protection();
     stations(&extended);

@@ -1,10 +1,10 @@
 /*
  * siljuvatt: satellite avionics units on their two CAN lines, to GB/T 43671-2024. For x86-64 Linux.
  *
- * Frames of both formats, split and joined; up to sixteen streams a station, and a tally of each of its answers;
- * acceptance filters; a master's exchanges over both buses; a watch for a bus gone silent. Every function of the
- * library is proved, for every input, against the definitions that these descriptions put into words: any numbers, any
- * bytes, any length. Nothing has to be checked before a call.
+ * Frames of both formats, split and joined; up to sixteen streams a station; acceptance filters; a master's exchanges
+ * over both buses; a watch for a bus gone silent. Every function of the library is proved, for every input, against
+ * the definitions that these descriptions put into words: any numbers, any bytes, any length. Nothing has to be
+ * checked before a call.
  *
  * MEMORY. The library has none of its own and keeps no pointer: a call works on what it is lent and is done with it
  * when it returns. A station, a master and a watch are bytes that the caller owns (SILJUVATT_STATION_SIZE and so on):
@@ -15,10 +15,10 @@
  *
  * ANSWERS are numbers of 32 bits, but for the filters' bool. SILJUVATT_IS_REFUSED(answer) tells a refusal;
  * SILJUVATT_NUMBER(answer) is then its number, one of enum siljuvatt_refusal. A refused call stores nothing at all, not
- * even what was there, except that siljuvatt_receive counts the images that it refuses (TALLIES), and that after STEP
- * and LONG the stream's record says that it is idle. Any other answer has a number, SILJUVATT_NUMBER(answer), and some
- * have a kind, SILJUVATT_KIND(answer). Where several refusals apply the answer is the first of: STATE, STORE, FIELD,
- * and then in the order in which each function lists them. A compiler that can warns of an answer that is not used.
+ * even what was there, except that after STEP and LONG the stream's record says that it is idle. Any other answer has a
+ * number, SILJUVATT_NUMBER(answer), and some have a kind, SILJUVATT_KIND(answer). Where several refusals apply the
+ * answer is the first of: STATE, STORE, FIELD, and then in the order in which each function lists them. A compiler that
+ * can warns of an answer that is not used.
  *
  * EXAMPLE, compiled and run by library/test: a packet is split, and a station joins its pieces.
  *
@@ -81,7 +81,7 @@ extern "C" {
 /* ---- The release ---- */
 
 #define SILJUVATT_VERSION_MAJOR 0
-#define SILJUVATT_VERSION_MINOR 3
+#define SILJUVATT_VERSION_MINOR 2
 #define SILJUVATT_VERSION_PATCH 0
 
 /* The release that this header is of, as a number, and that of the library that is linked: they should be equal. */
@@ -112,7 +112,7 @@ SILJUVATT_USE_ANSWER uint32_t siljuvatt_version(void);
     REFUSAL(LONG, 8, "the packet would pass 2,048 bytes; the stream is idle now") \
     REFUSAL(FIELD, 9, "a format, field, bus, kind or node is out of range, or the fields are of another format") \
     REFUSAL(SIZE, 10, "the packet is over the format's limit") \
-    REFUSAL(INDEX, 11, "there is no piece k, or no tally of that index") \
+    REFUSAL(INDEX, 11, "there is no piece k") \
     REFUSAL(ROOM, 12, "the output is shorter than the image") \
     REFUSAL(STORE, 13, "the store is not 32,768 bytes") \
     REFUSAL(TAKEN, 14, "the key is open already") \
@@ -123,8 +123,7 @@ SILJUVATT_USE_ANSWER uint32_t siljuvatt_version(void);
     REFUSAL(IDLE, 19, "a reply or a timeout with no exchange") \
     REFUSAL(NOTAWAITED, 20, "the reply does not count") \
     REFUSAL(STATE, 21, "the bytes are no sound station, master or watch of this release's layout") \
-    REFUSAL(SURPLUS, 25, "the image is longer than its count says") \
-    REFUSAL(TALLY, 26, "a tally of the station stands at its largest value")
+    REFUSAL(SURPLUS, 25, "the image is longer than its count says")
 
 #define SILJUVATT_REFUSAL_NUMBER_(name, number, text) SILJUVATT_REFUSAL_##name = number,
 enum siljuvatt_refusal { SILJUVATT_REFUSALS(SILJUVATT_REFUSAL_NUMBER_) };
@@ -190,8 +189,8 @@ SILJUVATT_USE_ANSWER uint32_t siljuvatt_write_piece(uint8_t format, const uint8_
  * The bytes of a station, and the number of their layout; how many slots it has; the bytes of its store, and those of
  * the store that each slot owns: from slot * SILJUVATT_AREA_SIZE on.
  */
-#define SILJUVATT_STATION_SIZE 242
-#define SILJUVATT_STATION_LAYOUT 2
+#define SILJUVATT_STATION_SIZE 130
+#define SILJUVATT_STATION_LAYOUT 1
 #define SILJUVATT_SLOTS 16
 #define SILJUVATT_STORE_SIZE 32768
 #define SILJUVATT_AREA_SIZE 2048
@@ -203,8 +202,8 @@ SILJUVATT_USE_ANSWER uint32_t siljuvatt_write_piece(uint8_t format, const uint8_
 #define SILJUVATT_BROKE(answer) (((answer) >> 24) & UINT32_C(1))
 
 /*
- * Makes the bytes a new station of a format, every slot closed and every tally 0, whatever they were. Answers 0.
- * Refuses: STATE (their length), FIELD.
+ * Makes the bytes a new station of a format, every slot closed, whatever they were. Answers 0. Refuses: STATE (their
+ * length), FIELD.
  */
 SILJUVATT_USE_ANSWER uint32_t siljuvatt_station_new(uint8_t *station, size_t station_length, uint8_t format);
 
@@ -222,13 +221,12 @@ SILJUVATT_USE_ANSWER uint32_t siljuvatt_close(uint8_t *station, size_t station_l
  * Receives the image of a frame on a bus. The answer's kind:
  *   SILJUVATT_PACKET    the stream has a packet, of SILJUVATT_NUMBER(answer) bytes: siljuvatt_read
  *   SILJUVATT_KEPT      more of the packet is awaited
- *   SILJUVATT_FILTERED  no slot is open with the frame's key
+ *   SILJUVATT_FILTERED  no slot is open with the frame's key; nothing is stored
  * SILJUVATT_BROKE(answer) is 1 if an older packet of the stream was not whole and is dropped. Only the record and the
- * area of the slot with the frame's key are written to, and the tally of the answer, which goes up by one.
+ * area of the slot with the frame's key are written to.
  * A count of 9 to 15 in the image is read as 8, in both formats: it says eight data bytes (ISO 11898-1, classical CAN),
  * of which a standard start, middle or end has its number first. Nothing keeps which count it was.
- * STATE, STORE, FIELD and TALLY come before any look at the image, and raise no tally: nothing at all is stored.
- * Refuses: STATE, STORE, FIELD (the bus), TALLY, LENGTH, FORM, REMOTE, COUNT, SURPLUS, PIECE, ORPHAN, STEP, LONG.
+ * Refuses: STATE, STORE, FIELD (the bus), LENGTH, FORM, REMOTE, COUNT, SURPLUS, PIECE, ORPHAN, STEP, LONG.
  */
 SILJUVATT_USE_ANSWER uint32_t siljuvatt_receive(uint8_t *station, size_t station_length, uint8_t *store,
                                                 size_t store_length, uint8_t bus, const uint8_t *image,
@@ -242,35 +240,6 @@ SILJUVATT_USE_ANSWER uint32_t siljuvatt_receive(uint8_t *station, size_t station
  */
 SILJUVATT_USE_ANSWER uint32_t siljuvatt_read(const uint8_t *station, size_t station_length, const uint8_t *store,
                                              size_t store_length, size_t slot, size_t *start);
-
-/*
- * TALLIES. A station counts the images that it judges: how often siljuvatt_receive gave each answer, with and without
- * an older packet dropped, and each refusal that an image can have. Each image raises the one tally of its answer, and
- * no other call moves one; their sum is the number of images judged. They are numbers of 64 bits. Where one stands at
- * 2^64 - 1 no image is received any more, whatever its answer would be: TALLY.
- */
-#define SILJUVATT_TALLY_PACKET 0
-#define SILJUVATT_TALLY_PACKET_BROKE 1
-#define SILJUVATT_TALLY_KEPT 2
-#define SILJUVATT_TALLY_KEPT_BROKE 3
-#define SILJUVATT_TALLY_FILTERED 4
-#define SILJUVATT_TALLY_REFUSED_1 5 /* LENGTH */
-#define SILJUVATT_TALLY_REFUSED_2 6 /* FORM */
-#define SILJUVATT_TALLY_REFUSED_3 7 /* REMOTE */
-#define SILJUVATT_TALLY_REFUSED_4 8 /* COUNT */
-#define SILJUVATT_TALLY_REFUSED_5 9 /* PIECE */
-#define SILJUVATT_TALLY_REFUSED_6 10 /* ORPHAN */
-#define SILJUVATT_TALLY_REFUSED_7 11 /* STEP */
-#define SILJUVATT_TALLY_REFUSED_8 12 /* LONG */
-#define SILJUVATT_TALLY_REFUSED_25 13 /* SURPLUS */
-#define SILJUVATT_TALLIES 14
-
-/*
- * A tally of a station, by its index: answers 0 and sets *value to it. value must point to a uint64_t, which stays as
- * it was if the call is refused. Refuses: STATE, INDEX.
- */
-SILJUVATT_USE_ANSWER uint32_t siljuvatt_tally(const uint8_t *station, size_t station_length, size_t index,
-                                              uint64_t *value);
 
 /* ---- Acceptance filters (extended) ---- */
 
@@ -351,20 +320,15 @@ SILJUVATT_USE_ANSWER uint32_t siljuvatt_watch_check(uint8_t *watch, size_t watch
 
 /* ---- What the bytes of a station, a master and a watch are ----
  *
- * They need not be known to use the library, and belong to a release. One byte is the number of their layout: byte 129
- * of a station, the last of a master and of a watch. A release reads its own layout alone: a state of another one is
- * refused as STATE, as is memory that was never made a state. Of an old state make a new one: read the packets with the
- * release that wrote it, then siljuvatt_station_new and siljuvatt_open for each key (siljuvatt_master_new,
- * siljuvatt_watch_new). The store has no layout of its own.
+ * They need not be known to use the library, and belong to a release. The last byte is the number of their layout. A
+ * release reads its own layout alone: a state of another one is refused as STATE, as is memory that was never made a
+ * state. Of an old state make a new one: read the packets with the release that wrote it, then siljuvatt_station_new
+ * and siljuvatt_open for each key (siljuvatt_master_new, siljuvatt_watch_new). The store has no layout of its own.
  *
- * A station: a record of 8 bytes for each slot, then the format (0 or 1), the number of the layout, and from byte 130
- * on the tallies, in the order of their indices, 8 bytes each, low byte first. Any numbers are tallies. A record is two
- * numbers of 32 bits, low byte first, both 0 for a closed slot. The first is the key's: priority + 4 * function +
- * 128 * bus + 256 * source + 65,536 * group + 16,777,216 * destination in extended, priority + 128 * bus + 16,384 +
- * 256 * address + 65,536 * side in standard. The second is 65,536 idle, 131,072 + h collecting with h bytes,
- * 196,608 + h done with h bytes.
- * A station of layout 1 had 130 bytes, the last of them 1, and no tallies. It can be carried over with its streams and
- * its store, in the midst of a packet too: its 130 bytes, with a 2 in place of the last, and 112 bytes of 0 after them.
+ * A station: a record of 8 bytes for each slot, then the format (0 or 1). A record is two numbers of 32 bits, low byte
+ * first, both 0 for a closed slot. The first is the key's: priority + 4 * function + 128 * bus + 256 * source +
+ * 65,536 * group + 16,777,216 * destination in extended, priority + 128 * bus + 16,384 + 256 * address + 65,536 * side
+ * in standard. The second is 65,536 idle, 131,072 + h collecting with h bytes, 196,608 + h done with h bytes.
  * A master: for each node its chosen bus, then the kind, the node and the send count of the exchange, all 0 if there
  * is none. A watch: the last times of bus A and bus B, each low byte first.
  */

@@ -23,9 +23,9 @@ from unittest import mock
 
 import siljuvatt
 from siljuvatt import (
-    EXTENDED_LIMIT, STANDARD_LIMIT, STATION_LAYOUT, STORE_SIZE, TALLIES, Bus, Done, ExtendedFields, Filter, Filtered,
-    Format, GaveUp, Kept, Kind, Master, Packet, Refusal, Refused, Send, Silent, StandardFields, Station, Tallies, Watch,
-    id_of, piece_count, pieces, row_accepts, write_piece)
+    EXTENDED_LIMIT, STANDARD_LIMIT, STORE_SIZE, Bus, Done, ExtendedFields, Filter, Filtered, Format, GaveUp, Kept, Kind,
+    Master, Packet, Refusal, Refused, Send, Silent, StandardFields, Station, Watch, id_of, piece_count, pieces,
+    row_accepts, write_piece)
 
 HERE = Path(__file__).resolve().parent
 SAMPLES = HERE.parent.parent / "samples"
@@ -36,8 +36,6 @@ KEPT, BROKE = Kept(False), Kept(True)
 
 BOTH = [(Format.EXTENDED, BOARD), (Format.STANDARD, SLAVE)]
 LIMITS = {Format.EXTENDED: EXTENDED_LIMIT, Format.STANDARD: STANDARD_LIMIT}
-TALLIES_AT = 130  # in a station's bytes, each of 8 bytes, low byte first
-LARGEST = 2**64 - 1
 TOO_LARGE = (-1, 2**32, 2**32 + 1, 2**64, 2**64 + 1)  # for a size: what is over 32 or 64 bits must not wrap
 
 
@@ -86,20 +84,10 @@ class Case(unittest.TestCase):
         self.assertFalse(one == bytes(one))
         self.assertRaises(TypeError, hash, one)
 
-    def raised(self, before, name, station):
-        """All is as before, but for the tally of that name, which is one more."""
-        state, store, tallies = before
-        self.assertTrue((bytes(station)[:TALLIES_AT], bytes(station.store)) == (state[:TALLIES_AT], store), name)
-        self.assertEqual(station.tallies.named, {**tallies.named, name: tallies.named[name] + 1})
-
-    def held(self, station):
-        return bytes(station), bytes(station.store), station.tallies
-
     def unchanged(self, name, station, frame):
-        """An image that is refused for itself or for its stream changes nothing but the tally of that refusal."""
-        before = self.held(station)
+        before = bytes(station), bytes(station.store)
         self.refused(name, station.receive, Bus.A, frame)
-        self.raised(before, f"refused {Refusal[name].value}", station)
+        self.assertTrue(before == (bytes(station), bytes(station.store)), name)
 
 
 class Document01(Case):
@@ -517,11 +505,11 @@ class Streams(Case):
         sound = bytes(self.station())
         store = bytearray(STORE_SIZE)
         self.assertEqual(bytes(Station.from_bytes(sound, store)), sound)
-        # The format, the key, the stream, and the layout.
-        for place, byte in [(128, 2), (1, 64), (6, 4), (4, 1), (129, 0), (129, 1), (129, 3)]:
+        # The format, the key, the stream, and the layout, which is the last byte.
+        for place, byte in [(128, 2), (1, 64), (6, 4), (4, 1), (129, 0), (129, 2)]:
             self.refused("STATE", Station.from_bytes, self.edited(sound, place, byte), store)
         self.refused("STATE", Station.from_bytes, sound[:8] * 2 + sound[16:], store)  # one key twice
-        for none in (b"", sound[1:], sound[:TALLIES_AT], sound + b"\1", bytes(len(sound))):
+        for none in (b"", sound[1:], sound + b"\1", bytes(len(sound))):
             self.refused("STATE", Station.from_bytes, none, store)
         self.refused("FIELD", Station, 2)
 
@@ -570,153 +558,6 @@ class Streams(Case):
         for thread in threads:
             thread.join()
         self.assertEqual([station.read_bytes(slot) for slot in slots], [packet_of(2000, seed) for seed in range(4)])
-
-
-class Counted(Case):
-    """Tallies, by request L5 of document 02, in both formats."""
-
-    NAMES = ["packet", "packet broke", "kept", "kept broke", "filtered", *(f"refused {n}" for n in range(1, 9)),
-             "refused 25"]
-
-    # The name of a tally, whether the stream collects before the image, and the image. 2 and 8 are of extended alone.
-    IMAGES = {
-        Format.EXTENDED: [
-            ("packet", False, "81 45 00 C0 10 07"), ("packet broke", True, "81 45 00 C0 10 07"),
-            ("kept", False, "88 45 00 40 10 01 02 03 04 05 06 07 08"),
-            ("kept broke", True, "88 45 00 40 10 01 02 03 04 05 06 07 08"), ("filtered", False, "81 46 00 C0 10 07"),
-            ("refused 1", False, "81 45 00 C0"), ("refused 2", False, "91 45 00 C0 10 07"),
-            ("refused 3", False, "C1 45 00 C0 10 07"), ("refused 4", False, "82 45 00 C0 10 07"),
-            ("refused 5", False, "81 45 00 C1 10 07"), ("refused 6", False, "81 45 00 82 10 07"),
-            ("refused 7", True, "81 45 00 82 10 07"), ("refused 25", False, "80 45 00 C0 10 07")],
-        Format.STANDARD: [
-            ("packet", False, "96 E1 07"), ("packet broke", True, "96 E1 07"),
-            ("kept", False, "96 A8 00 01 02 03 04 05 06 07"), ("kept broke", True, "96 A8 00 01 02 03 04 05 06 07"),
-            ("filtered", False, "97 E1 07"), ("refused 1", False, "96"), ("refused 3", False, "96 F1 07"),
-            ("refused 4", False, "96 E2 07"), ("refused 5", False, "96 C2 01 08"), ("refused 6", False, "96 C2 02 08"),
-            ("refused 7", True, "96 C2 02 08"), ("refused 25", False, "96 E0 07")],
-    }
-
-    def each_image(self):
-        """A station that awaits each image, the image, and the name of its tally."""
-        for format, fields in BOTH:
-            for name, collecting, frame in self.IMAGES[format]:
-                station = self.station(format, fields)
-                self.keep(station, split(fields, packet_of(9))[:collecting])
-                yield station, bytes.fromhex(frame), name
-
-    def with_tally(self, station, place, number):
-        """The same station with another number in a tally."""
-        state, at = bytearray(bytes(station)), TALLIES_AT + 8 * place
-        state[at:at + 8] = number.to_bytes(8, "little")
-        return Station.from_bytes(state, bytearray(station.store))
-
-    def name_of(self, station, frame):
-        """Receives an image; the name of the tally that its answer should raise."""
-        try:
-            answer = station.receive(Bus.A, frame)
-        except Refused as refused:
-            return f"refused {refused.number}"
-        return type(answer).__name__.lower() + (" broke" if getattr(answer, "broke", False) else "")
-
-    def test_names(self):
-        self.assertEqual([*Station().tallies.named.items()], [(name, 0) for name in self.NAMES])
-        self.assertEqual(len(self.NAMES), TALLIES)
-        for field in Tallies._fields:
-            self.assertEqual(Tallies._fields.index(field), getattr(siljuvatt, f"TALLY_{field.upper()}"))
-        tallies = Tallies(*range(100, 114))
-        self.assertEqual((tallies.packet, tallies.packet_broke, tallies.refused_25), (100, 101, 113))
-        self.assertEqual(tallies.named["refused 8"], 112)
-        self.assertEqual(Tallies(*[LARGEST] * 14).total, 14 * LARGEST)
-
-    def test_each_image_raises_its_own(self):
-        raised = set()
-        for station, frame, name in self.each_image():
-            before = station.tallies
-            self.assertEqual(self.name_of(station, frame), name)
-            self.assertEqual(station.tallies.named, {**before.named, name: before.named[name] + 1})
-            self.assertEqual(station.tallies.total, before.total + 1)
-            raised.add(name)
-        self.assertEqual(raised, {*self.NAMES} - {"refused 8"})
-
-    def test_long(self):
-        station = self.station()
-        frames = split(BOARD, packet_of(2048))
-        self.keep(station, [*frames[:255], frames[191]])
-        self.refused("LONG", station.receive, Bus.A, split(BOARD, packet_of(513))[64])
-        self.assertEqual((station.tallies.kept, station.tallies.refused_8, station.tallies.total), (256, 1, 257))
-
-    def test_largest_value(self):
-        """One below it, an image is received; at it none is, whatever its answer would be, and nothing changes."""
-        for station, frame, name in self.each_image():
-            for place, full in enumerate(self.NAMES):
-                below = self.with_tally(station, place, LARGEST - 1)
-                self.assertEqual(self.name_of(below, frame), name)
-                self.assertEqual(below.tallies[place], LARGEST - (full != name))
-                at_it = self.with_tally(station, place, LARGEST)
-                before = self.held(at_it)
-                self.refused("TALLY", at_it.receive, Bus.A, frame)
-                self.refused("TALLY", at_it.receive, Bus.B, b"")
-                self.refused("FIELD", at_it.receive, 2, b"")
-                self.assertTrue(before == self.held(at_it), (name, full))
-
-    def test_other_calls_move_none(self):
-        for format, fields in BOTH:
-            station = self.station(format, fields)
-            station.receive(Bus.A, single(fields, b"007"))
-            for place in range(TALLIES):
-                station = self.with_tally(station, place, LARGEST - place % 2)
-            before = station.tallies
-            self.assertEqual(station.open(Bus.B, fields), 1)
-            self.refused("TAKEN", station.open, Bus.B, fields)
-            self.assertEqual(station.read_bytes(0), b"007")
-            station.close(1)
-            self.refused("CLOSED", station.close, 1)
-            self.assertEqual(station.tallies, before)
-
-    def test_not_judged(self):
-        station = Station(Format.EXTENDED, bytearray(STORE_SIZE - 1))
-        self.refused("STORE", station.receive, Bus.A, b"")
-        self.assertEqual(station.tallies.total, 0)
-        station = Station()
-        self.refused("FIELD", station.receive, 2, b"")
-        self.assertEqual(station.tallies.total, 0)
-
-    def test_samples_are_counted_as_reported(self):
-        """Each record as the listing takes it: its key is opened before it, if the image is sound and a slot is left."""
-        sums = dict.fromkeys(self.NAMES, 0)
-        for trace in ("document-01.trace", "two-boards.trace"):
-            station, left = Station(), (SAMPLES / trace).read_bytes()
-            while left:
-                size = 2 + int.from_bytes(left[:2], "big")
-                bus, frame, left = left[3], left[4:size], left[size:]
-                if isinstance(self.tried(station, bus, frame), Filtered):
-                    station.open(bus, ExtendedFields(frame[1] >> 6, frame[1] & 63, frame[2] >> 6, frame[2] & 63,
-                                                     frame[4] >> 3))
-                with contextlib.suppress(Refused):
-                    station.receive(bus, frame)
-            for name, tally in station.tallies.named.items():
-                sums[name] += tally
-        lines = "".join(f"{name} {tally}\n" for name, tally in sums.items())
-        self.assertEqual(lines, (SAMPLES / "report.txt").read_text())
-
-    def tried(self, station, bus, frame):
-        """What the station would answer; it stays as it is. None if the image is refused."""
-        with contextlib.suppress(Refused):
-            return copy.copy(station).receive(bus, frame)
-
-    def test_layout_1_is_carried_over(self):
-        """130 bytes without tallies, in the midst of a packet."""
-        station = self.station()
-        first, last = split(BOARD, b"004127019")
-        self.keep(station, [first])
-        old = self.edited(bytes(station)[:TALLIES_AT], 129, 1)
-        self.refused("STATE", Station.from_bytes, old, station.store)
-        self.refused("STATE", Station.from_bytes, old + bytes(8 * TALLIES), station.store)
-        carried = Station.from_bytes(old[:129] + bytes([STATION_LAYOUT]) + bytes(8 * TALLIES), station.store)
-        self.assertEqual(carried.tallies.total, 0)
-        self.assertEqual(carried.receive(Bus.A, last), Packet(9, False))
-        self.assertEqual(carried.read_bytes(0), b"004127019")
-        self.assertEqual((carried.tallies.packet, carried.tallies.total), (1, 1))
 
 
 class Exchanges(Case):
@@ -896,8 +737,7 @@ class Answers(Case):
         for number in sorted({*range(100), 0xFFFF} - {*Refusal}):  # those in gaps too
             with self.answering(0x80000000 | number):
                 for call, *arguments in [
-                        (piece_count, 0, 0), (station.receive, 0, b""), (getattr, station, "tallies"),
-                        (master.start, 1, 1), (watch.check, 0)]:
+                        (piece_count, 0, 0), (station.receive, 0, b""), (master.start, 1, 1), (watch.check, 0)]:
                     with self.assertRaises(Refused) as caught:
                         call(*arguments)
                     self.assertEqual((caught.exception.number, caught.exception.name), (number, "UNKNOWN"))
@@ -968,8 +808,7 @@ class Loading(Case):
         types = {
             "uint8_t": ctypes.c_uint8, "uint16_t": ctypes.c_uint16, "uint32_t": ctypes.c_uint32,
             "size_t": ctypes.c_size_t, "bool": ctypes.c_bool, "uint8_t *": ctypes.c_void_p,
-            "siljuvatt_row *": ctypes.c_void_p, "size_t *": ctypes.POINTER(ctypes.c_size_t),
-            "uint64_t *": ctypes.POINTER(ctypes.c_uint64)}
+            "siljuvatt_row *": ctypes.c_void_p, "size_t *": ctypes.POINTER(ctypes.c_size_t)}
         header = (HERE.parent / "include" / "siljuvatt.h").read_text()
         calls = re.findall(r"^SILJUVATT_USE_ANSWER (\w+) siljuvatt_(\w+)\(([^)]*)\);", header, re.M)
         self.assertEqual(sorted(name for _, name, _ in calls), sorted(siljuvatt._ARGUMENTS))
@@ -994,7 +833,6 @@ class Loading(Case):
     def test_library_of_another_release(self):
         for source, text in [
                 ("int siljuvatt_version(void) { return 0x010203; }", f"of release 1.2.3, .* {siljuvatt.__version__}:"),
-                ("int siljuvatt_version(void) { return 0x000200; }", f"of release 0.2.0, .* {siljuvatt.__version__}:"),
                 ("int other;", "has no siljuvatt_version")]:
             with tempfile.TemporaryDirectory() as folder:
                 self.assertRaisesRegex(OSError, text, siljuvatt.load, self.compiled(folder, source))

@@ -1,10 +1,10 @@
-"""Looking at all that the program holds between requests, by calls that leave all of it as it was."""
+"""Looking at all that the program holds between requests, by calls that change none of it."""
 
 from driver import Failure, Operation
 from exchanges import NODES, TIME
 from lines import answer_text, bus_name, exchange_name, hex_text
 from listings import COUNT
-from stations import SLOTS, SLOT_SIZE, TALLIES, set_tally, take_tallies, tallies_text
+from stations import SLOTS, SLOT_SIZE
 
 BYTES = 40000  # all that the program holds, lent or not
 FEW = 16  # bytes that are shown one by one
@@ -14,25 +14,12 @@ def slots_text(response):
     """The slots that are not all 0, in the protocol's bytes."""
     shown, slots = answer_text(response.answer()), [response.take(SLOT_SIZE) for _ in range(SLOTS)]
     found = [f", {place}:{hex_text(slot)}" for place, slot in enumerate(slots) if any(slot)]
-    take_tallies(response)
     return shown + ("".join(found) or ", all closed")
 
 
-def counted_text(response):
-    """The tallies that are not 0."""
-    return " " + (tallies_text(tallies_in(response), [0] * len(TALLIES)) or "all 0")
-
-
-def tallies_in(response):
-    response.answer()
-    response.take(SLOTS * SLOT_SIZE)
-    return take_tallies(response)
-
-
 def store_text(response):
-    """The answer alone: slots and tallies are shown by themselves."""
-    answer = response.answer()
-    response.rest()
+    """The answer alone: the slots are shown by themselves."""
+    answer, _ = response.answer(), response.take(SLOTS * SLOT_SIZE)
     return answer_text(answer)
 
 
@@ -63,12 +50,9 @@ def watch_text(response):
 
 # Each part, and a call that shows it and changes nothing: there is no slot 200, an output of 0 bytes has no room, and
 # there is no bus 9. What is received is too short for an extended image, and remote as a standard one: 1 is the answer
-# of an extended station, 3 of a standard one, 13 if another store than of 32,768 bytes is lent, 26 if a tally is full.
-# 1 and 3 are counted: that tally is put back.
-LOOK_AT_STATION = (Operation.CLOSE, bytes([200]))
+# of an extended station, 3 of a standard one, 13 if another store than of 32,768 bytes is lent.
 PARTS = {
-    "slots": (*LOOK_AT_STATION, slots_text),
-    "tallies": (*LOOK_AT_STATION, counted_text),
+    "slots": (Operation.CLOSE, bytes([200]), slots_text),
     "store": (Operation.RECEIVE, bytes([0, 0x00, 0x10, 0, 0]), store_text),
     "bytes": (Operation.STORE, bytes(2) + BYTES.to_bytes(2, "big"), bytes_text),
     "count": (Operation.END, bytes(2), count_text),
@@ -87,14 +71,11 @@ class Held:
         """Each part that is other than at the last look; at the first, every one."""
         if len(self.bench.drivers) > 1:
             raise Failure("a look is for one front")
-        shown, before = "", tallies_in(self.bench.ask(*LOOK_AT_STATION))
+        shown = ""
         for part, (operation, arguments, words) in PARTS.items():
             response = self.bench.ask(operation, arguments)
             now = words(response)
             response.end()
-            if part == "store" and now.strip() in TALLIES:
-                index = TALLIES.index(now.strip())
-                set_tally(self.bench, index, before[index])
             if self.seen.get(part) != now:
                 shown += f"{name}, {part}:{now}\n"
             self.seen[part] = now

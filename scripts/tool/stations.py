@@ -1,4 +1,4 @@
-"""Commands on stations: opening, receiving, reading and closing, packets fed piece by piece, tallies, the two fronts.
+"""Commands on stations: opening, receiving, reading and closing, packets fed piece by piece, and the two fronts.
 
 Where two fronts are set, every call is made on both, and both answers are shown.
 """
@@ -9,31 +9,9 @@ from lines import answer_text, bus_name, hex_text, text
 from words import COUNTS, PROGRESS
 
 SLOTS, SLOT_SIZE = 16, 10
-# In the order of their indices, each in the words of the answer that it counts.
-TALLIES = ["packet", "packet broke", "kept", "kept broke", "filtered",
-           *(f"refused {number}" for number in (1, 2, 3, 4, 5, 6, 7, 8, 25))]
-TALLY_SIZE = 8
 WHOLE_IMAGE = 13  # room for any image
 RECORD_HEAD = 4  # of a record: length, version and bus; the image follows
 MOST_RECORD_BYTES = 65534  # of a trace that are handed in to find its next record
-
-
-def take_tallies(response):
-    """The tallies, which stand at the end of a response, behind the slots."""
-    return [response.number(TALLY_SIZE) for _ in TALLIES]
-
-
-def set_tally(bench, index, number):
-    """Sets a tally by hand, in every program; the responses, behind their answers."""
-    responses = bench.ask_each(Operation.TALLY, bytes([index]) + number.to_bytes(TALLY_SIZE, "big"))
-    for response in responses:
-        response.settled()
-    return responses
-
-
-def tallies_text(now, before):
-    """The tallies that are other than before, by name."""
-    return ", ".join(f"{name} {one}" for name, one, other in zip(TALLIES, now, before) if one != other)
 
 
 def side_by_side(answers, name=""):
@@ -59,29 +37,26 @@ class Stations:
     """The commands; each returns the text that it shows, if any."""
 
     def __init__(self, bench):
-        self.bench, self.slots, self.tallied, self.told = bench, [], [], []
+        self.bench, self.slots = bench, []
 
     def commands(self):
         return {
             "new": self.new, "open": self.open, "close": self.close, "receive": self.receive, "hear": self.hear,
             "read": self.read, "compare": self.compare, "slot": self.slot, "lend": self.lend, "fill": self.fill,
-            "feed": self.feed, "orders": self.orders, "counted": self.counted,
+            "feed": self.feed, "orders": self.orders, "tally": self.tally,
             "fronts": self.fronts, "alike": self.alike, "replay": self.replay,
-            "tallied": self.set_by_hand, "tallies": self.tallies,
         }
 
-    def keep(self, responses):
-        """The slots and the tallies of each front."""
+    def keep_slots(self, responses):
         self.slots = [response.take(SLOTS * SLOT_SIZE) for response in responses]
-        self.tallied = [take_tallies(response) for response in responses]
         for response in responses:
             response.end()
 
     def change(self, operation, arguments):
-        """A call that may change the slots and the tallies; returns the answers."""
+        """A call that may change the slots; returns the answers."""
         responses = self.bench.ask_each(operation, arguments)
         answers = [response.answer() for response in responses]
-        self.keep(responses)
+        self.keep_slots(responses)
         return answers
 
     def settle(self, operation, arguments):
@@ -89,11 +64,10 @@ class Stations:
         responses = self.bench.ask_each(operation, arguments)
         for response in responses:
             response.settled()
-        self.keep(responses)
+        self.keep_slots(responses)
 
     def renew(self, form):
         self.settle(Operation.NEW, bytes([form]))
-        self.told = [[0] * len(TALLIES) for _ in self.tallied]
         if len(self.bench.drivers) > 1:
             self.bench.set_fronts()
 
@@ -161,7 +135,7 @@ class Stations:
             self.feed_piece(key, packet, k)
 
     def two_boards(self, words):
-        """The arguments of orders and counted: pieces of each, and the key and packet of each board."""
+        """The arguments of orders and tally: pieces of each, and the key and packet of each board."""
         pieces, boards = words.choice("count", COUNTS), [(words.key(), words.bytes("and"))]
         words.expect("and")
         return pieces, boards + [(words.key(), words.bytes())]
@@ -190,7 +164,7 @@ class Stations:
             shown += "\n"
         return shown
 
-    def counted(self, words):
+    def tally(self, words):
         """The same, counted."""
         pieces, boards = self.two_boards(words)
         all_orders, equal = 0, 0
@@ -199,20 +173,6 @@ class Stations:
             held = self.weave(boards, order)
             equal += all(part == sent for parts, (_, sent) in zip(held, boards) for part in parts)
         return f"of {all_orders} orders of {COUNTS[pieces]} pieces each, both packets equal: {equal}\n"
-
-    def set_by_hand(self, words):
-        name, number = words.text("name"), words.number("number", TALLY_SIZE)
-        if name not in TALLIES:
-            raise Failure(f"'{name}' is no tally: {', '.join(TALLIES)}")
-        self.keep(set_tally(self.bench, TALLIES.index(name), number))
-
-    def tallies(self, _words):
-        """The tallies after the last call that are other than when last shown; those of a new station are all 0."""
-        if not self.told:
-            raise Failure("tallies are shown from the first 'new' on")
-        shown = [tallies_text(*fronts) or "as before" for fronts in zip(self.tallied, self.told)]
-        self.told = self.tallied
-        return f"tallies: {' | '.join(shown)}\n"
 
     def fronts(self, _words):
         """From here on every call is made on both fronts."""
@@ -226,13 +186,13 @@ class Stations:
             raise Failure("there is only one front: 'fronts' sets two")
 
     def alike(self, words):
-        """How many slots and tallies of the two fronts are alike after the last call, and bytes of their stores."""
+        """How many slots of the two fronts are alike after the last call, and how many bytes of their stores."""
         size = words.number("size", 2)
         self.two_fronts()
         stores = self.bench.ask_each(Operation.STORE, bytes(2) + size.to_bytes(2, "big"))
         first, second = (store.take(size) for store in stores)
         slots = [[held[i:i + SLOT_SIZE] for i in range(0, len(held), SLOT_SIZE)] for held in self.slots]
-        return alike("slots", *slots) + alike("tallies", *self.tallied) + alike("store bytes", first, second)
+        return alike("slots", *slots) + alike("store bytes", first, second)
 
     def next_record(self, trace, at):
         """The record at that place of a trace: the answer, and its image. A damaged or cut record is none."""

@@ -1,22 +1,18 @@
-//! The programs: the listing and the calls from standard input, the report from
-//! files; all to standard output.
+//! The two programs, from standard input to standard output.
 
 use std::env;
-use std::ffi::{OsStr, OsString};
 use std::io::{self, ErrorKind};
 use std::process::ExitCode;
 
 fn main() -> ExitCode {
     let mut arguments = env::args_os().skip(1);
-    let name = arguments.next();
-    let more: Vec<OsString> = arguments.collect();
+    let (name, more) = (arguments.next(), arguments.next());
     let (input, output) = (io::stdin().lock(), io::stdout().lock());
-    let result = match (name.as_deref().and_then(OsStr::to_str), &more[..]) {
-        (Some("listing"), []) => second::listing(input, output),
-        (Some("calls"), []) => second::calls(input, output),
-        (Some("report"), files) => second::report(files, output, io::stderr().lock()),
+    let result = match (name.as_ref().and_then(|name| name.to_str()), more) {
+        (Some("listing"), None) => second::listing(input, output),
+        (Some("calls"), None) => second::calls(input, output),
         _ => {
-            eprintln!("usage: second listing | calls | report FILE ..");
+            eprintln!("usage: second listing | calls");
             return ExitCode::from(2);
         }
     };

@@ -39,7 +39,6 @@ refusals! {
     NotAwaited = 20,
     State = 21,
     Surplus = 25,
-    Tally = 26,
 }
 
 impl Refusal {
@@ -82,7 +81,5 @@ mod tests {
         assert_eq!(Refusal::NotAwaited.name(), "NOTAWAITED");
         assert_eq!(Refusal::NoPacket.name(), "NOPACKET");
         assert_eq!(Refusal::Surplus.name(), "SURPLUS");
-        assert_eq!(Refusal::Tally.name(), "TALLY");
-        assert_eq!(Refusal::Tally.number(), 26);
     }
 }

@@ -10,7 +10,6 @@ use crate::refusal::Refusal;
 use crate::split::{piece_count, write_piece};
 use crate::station::{Slot, Station, SLOT_COUNT, STORE_SIZE};
 use crate::stream::{Answer, State};
-use crate::tally::TALLY_COUNT;
 
 const NEW: u8 = 1;
 const OPEN: u8 = 2;
@@ -25,7 +24,6 @@ const STORE: u8 = 10;
 const FILL: u8 = 11;
 const FRONT: u8 = 12;
 const JUDGE: u8 = 13;
-const TALLY: u8 = 31;
 
 /// The bytes of which a part is lent as the store.
 const BYTES_SIZE: usize = 40_000;
@@ -131,10 +129,6 @@ impl Bench {
             // Both fronts answer alike, so there is one here and nothing to change.
             (FRONT, &[0 | 1]) => put_value(Ok(0), response),
             (JUDGE, &[format, ref image @ ..]) => put_judged(format_of(format)?, image, response),
-            (TALLY, &[index, ref value @ ..]) => {
-                let value = u64::from_be_bytes(value.try_into().ok()?);
-                self.set_tally(usize::from(index), value, response)?;
-            }
             _ => return None,
         }
         Some(())
@@ -145,21 +139,21 @@ impl Bench {
         self.bytes.fill(0);
         self.lent = STORE_SIZE;
         put_value(Ok(0), response);
-        put_station(&self.station, response);
+        put_slots(&self.station, response);
     }
 
     fn open(&mut self, key: Key, response: &mut Vec<u8>) {
         let (station, answer) = self.station.open(key);
         self.station = station;
         put_value(answer, response);
-        put_station(&self.station, response);
+        put_slots(&self.station, response);
     }
 
     fn close(&mut self, slot: u8, response: &mut Vec<u8>) {
         let (station, answer) = self.station.close(usize::from(slot));
         self.station = station;
         put_value(answer, response);
-        put_station(&self.station, response);
+        put_slots(&self.station, response);
     }
 
     fn receive(&mut self, bus: u8, image: &[u8], response: &mut Vec<u8>) {
@@ -167,7 +161,7 @@ impl Bench {
         let (station, answer) = self.station.receive(bus, image, store);
         self.station = station;
         put_answer(answer, response);
-        put_station(&self.station, response);
+        put_slots(&self.station, response);
     }
 
     fn read(&self, slot: u8, response: &mut Vec<u8>) {
@@ -179,14 +173,7 @@ impl Bench {
     fn set_slot(&mut self, slot: usize, content: Slot, response: &mut Vec<u8>) -> Option<()> {
         *self.station.slots.get_mut(slot)? = content;
         put_value(Ok(0), response);
-        put_station(&self.station, response);
-        Some(())
-    }
-
-    fn set_tally(&mut self, index: usize, value: u64, response: &mut Vec<u8>) -> Option<()> {
-        *self.station.tallies.0.get_mut(index)? = value;
-        put_value(Ok(0), response);
-        put_station(&self.station, response);
+        put_slots(&self.station, response);
         Some(())
     }
 
@@ -311,14 +298,11 @@ fn put_parts(kind: u8, number: usize, broke: bool, response: &mut Vec<u8>) {
     response.extend([kind, high, low, u8::from(broke)]);
 }
 
-/// Appends the ten bytes of each slot and the eight of each tally.
-fn put_station(station: &Station, response: &mut Vec<u8>) {
-    response.reserve(SLOT_COUNT * 10 + TALLY_COUNT * 8);
+/// Appends the ten bytes of each slot.
+fn put_slots(station: &Station, response: &mut Vec<u8>) {
+    response.reserve(SLOT_COUNT * 10);
     for slot in &station.slots {
         response.extend(slot_bytes(slot));
-    }
-    for tally in station.tallies.0 {
-        response.extend(tally.to_be_bytes());
     }
 }
 
@@ -396,25 +380,6 @@ mod tests {
         response
     }
 
-    /// A response without its tallies, which are as they should be: those given
-    /// with their place, and 0.
-    fn without_tallies(response: &[u8], tallies: &[(usize, u64)]) -> Vec<u8> {
-        let mut expected = [0; 112];
-        for &(place, tally) in tallies {
-            expected[8 * place..][..8].copy_from_slice(&tally.to_be_bytes());
-        }
-        assert_eq!(response.len(), 276);
-        assert_eq!(response[164..], expected);
-        response[..164].to_vec()
-    }
-
-    /// Sets a tally by hand.
-    fn tally(index: u8, value: u64) -> Vec<u8> {
-        let mut request = vec![TALLY, index];
-        request.extend(value.to_be_bytes());
-        request
-    }
-
     const OPEN_5: &[u8] = &[OPEN, 0, 0, 1, 5, 0, 0, 2];
     const RECEIVE_5: &[u8] = &[RECEIVE, 0, 0x81, 0x45, 0x00, 0xC0, 0x10, 0x07];
     const SLOTS_OF_DONE_5: [[u8; 10]; 1] = [[3, 0, 1, 0, 0, 1, 5, 0, 0, 2]];
@@ -423,16 +388,10 @@ mod tests {
     fn open_receive_read_close() {
         let responses = run(&[OPEN_5, RECEIVE_5, &[READ, 0], &[CLOSE, 0], &[READ, 0]]);
         let idle = [[1, 0, 0, 0, 0, 1, 5, 0, 0, 2]];
-        let of_packet: &[(usize, u64)] = &[(0, 1)];
-        for (response, answer, slots, tallies) in [
-            (&responses[0], [5, 0, 0, 0], &idle[..], &[][..]),
-            (&responses[1], [1, 0, 1, 0], &SLOTS_OF_DONE_5, of_packet),
-            (&responses[3], [5, 0, 0, 0], &[], of_packet),
-        ] {
-            let expected = with_slots(answer, slots);
-            assert_eq!(without_tallies(response, tallies), expected);
-        }
+        assert_eq!(responses[0], with_slots([5, 0, 0, 0], &idle));
+        assert_eq!(responses[1], with_slots([1, 0, 1, 0], &SLOTS_OF_DONE_5));
         assert_eq!(responses[2], [5, 0, 1, 0, 7]);
+        assert_eq!(responses[3], with_slots([5, 0, 0, 0], &[]));
         assert_eq!(responses[4], [4, 0, 16, 0]);
     }
 
@@ -455,70 +414,20 @@ mod tests {
         ];
         let responses = run(&[OPEN_5, start, start, RECEIVE_5]);
         let slots = [[2, 0, 8, 0, 0, 1, 5, 0, 0, 2]];
-        let tallies = [(2, 1), (3, 1), (1, 1)];
-        for (place, answer, slots) in [
-            (1, [2, 0, 0, 0], slots),
-            (2, [2, 0, 0, 1], slots),
-            (3, [1, 0, 1, 1], SLOTS_OF_DONE_5),
-        ] {
-            let response = without_tallies(&responses[place], &tallies[..place]);
-            assert_eq!(response, with_slots(answer, &slots));
-        }
-    }
-
-    #[test]
-    fn tallies_set_by_hand_are_raised_and_refused() {
-        let responses = run(&[
-            &tally(4, u64::MAX - 1),
-            &tally(13, 0x0102_0304_0506_0708),
-            RECEIVE_5,
-            RECEIVE_5,
-            &[RECEIVE, 2],
-            OPEN_5,
-            &tally(4, 0),
-            RECEIVE_5,
-            &[NEW, 0],
-        ]);
-        let thirteen = (13, 0x0102_0304_0506_0708);
-        let idle = [[1, 0, 0, 0, 0, 1, 5, 0, 0, 2]];
-        let value = [5, 0, 0, 0];
-        // The second of two frames of no open key meets a full tally.
-        for (place, answer, slots, tallies) in [
-            (0, value, &[][..], &[(4, u64::MAX - 1)][..]),
-            (1, value, &[], &[(4, u64::MAX - 1), thirteen]),
-            (2, [3, 0, 0, 0], &[], &[(4, u64::MAX), thirteen]),
-            (3, [4, 0, 26, 0], &[], &[(4, u64::MAX), thirteen]),
-            (4, [4, 0, 9, 0], &[], &[(4, u64::MAX), thirteen]),
-            (5, value, &idle, &[(4, u64::MAX), thirteen]),
-            (6, value, &idle, &[thirteen]),
-            (7, [1, 0, 1, 0], &SLOTS_OF_DONE_5, &[(0, 1), thirteen]),
-            (8, value, &[], &[]),
-        ] {
-            let response = without_tallies(&responses[place], tallies);
-            assert_eq!(response, with_slots(answer, slots), "{place}");
-        }
-    }
-
-    #[test]
-    fn each_tally_is_set_in_its_own_place() {
-        for index in 0..14 {
-            for value in [1, 1 << 63, u64::MAX] {
-                let response = last(&[&tally(index, value)]);
-                let rest = without_tallies(&response, &[(index.into(), value)]);
-                assert_eq!(rest, with_slots([5, 0, 0, 0], &[]));
-            }
-        }
+        assert_eq!(responses[1], with_slots([2, 0, 0, 0], &slots));
+        assert_eq!(responses[2], with_slots([2, 0, 0, 1], &slots));
+        assert_eq!(responses[3], with_slots([1, 0, 1, 1], &SLOTS_OF_DONE_5));
     }
 
     #[test]
     fn standard_fields_are_three() {
         let slots = [[1, 0, 0, 1, 1, 2, 22, 1, 0, 0]];
         let open = &[OPEN, 1, 1, 2, 22, 1, 77, 88];
-        let response = without_tallies(&last(&[&[NEW, 1], open]), &[]);
+        let response = last(&[&[NEW, 1], open]);
         assert_eq!(response, with_slots([5, 0, 0, 0], &slots));
         // The bytes not looked at do not make another key.
         let again = &[OPEN, 1, 1, 2, 22, 1, 0, 0];
-        let response = without_tallies(&last(&[&[NEW, 1], open, again]), &[]);
+        let response = last(&[&[NEW, 1], open, again]);
         assert_eq!(response, with_slots([4, 0, 14, 0], &slots));
     }
 
@@ -528,15 +437,13 @@ mod tests {
             OPEN_5,
             &[FILL, 3, 1],
             &[LEND, 0, 1],
-            &tally(7, 7),
             &[NEW, 0],
             &[STORE, 0, 0, 0, 2],
             &[READ, 0],
         ]);
-        let renewed = without_tallies(&responses[4], &[]);
-        assert_eq!(renewed, with_slots([5, 0, 0, 0], &[]));
-        assert_eq!(responses[5], [0, 0]);
-        assert_eq!(responses[6], [4, 0, 16, 0]);
+        assert_eq!(responses[3], with_slots([5, 0, 0, 0], &[]));
+        assert_eq!(responses[4], [0, 0]);
+        assert_eq!(responses[5], [4, 0, 16, 0]);
     }
 
     #[test]
@@ -588,20 +495,18 @@ mod tests {
             OPEN_5,
         ]);
         let unsound = [[3, 0xFF, 0xFF, 7, 0, 1, 2, 3, 4, 5]];
-        let of = |place: usize| without_tallies(&responses[place], &[]);
-        assert_eq!(of(0), with_slots([5, 0, 0, 0], &unsound));
-        for place in 1..4 {
-            assert_eq!(of(place), with_slots([4, 0, 21, 0], &unsound));
+        assert_eq!(responses[0], with_slots([5, 0, 0, 0], &unsound));
+        for response in &responses[1..4] {
+            assert_eq!(*response, with_slots([4, 0, 21, 0], &unsound));
         }
         assert_eq!(responses[4], [4, 0, 21, 0]);
-        assert_eq!(of(5), with_slots([5, 0, 0, 0], &[]));
+        assert_eq!(responses[5], with_slots([5, 0, 0, 0], &[]));
         assert_eq!(responses[6][..4], [5, 0, 0, 0]);
     }
 
     #[test]
     fn an_idle_slot_has_no_h() {
         let response = last(&[&[SLOT, 0, 1, 1, 1, 0, 1, 2, 22, 1, 5, 5]]);
-        let response = without_tallies(&response, &[]);
         let slots = [[1, 0, 0, 0, 1, 2, 22, 1, 0, 0]];
         assert_eq!(response, with_slots([5, 0, 0, 0], &slots));
     }
@@ -664,19 +569,8 @@ mod tests {
             let responses = run(&[OPEN_5, &[FRONT, front], RECEIVE_5, &[READ, 0]]);
             assert_eq!(responses[1], [5, 0, 0, 0]);
             let done = with_slots([1, 0, 1, 0], &SLOTS_OF_DONE_5);
-            assert_eq!(without_tallies(&responses[2], &[(0, 1)]), done);
+            assert_eq!(responses[2], done);
             assert_eq!(responses[3], [5, 0, 1, 0, 7]);
-        }
-    }
-
-    #[test]
-    fn both_fronts_refuse_by_26() {
-        for front in [0, 1] {
-            let full = tally(12, u64::MAX);
-            let response = last(&[OPEN_5, &[FRONT, front], &full, RECEIVE_5]);
-            let idle = [[1, 0, 0, 0, 0, 1, 5, 0, 0, 2]];
-            let rest = without_tallies(&response, &[(12, u64::MAX)]);
-            assert_eq!(rest, with_slots([4, 0, 26, 0], &idle));
         }
     }
 
@@ -698,20 +592,15 @@ mod tests {
 
     #[test]
     fn what_is_no_request_has_an_empty_response() {
-        let none: [&[u8]; 36] = [
+        let none: [&[u8]; 31] = [
             &[],
             &[0],
             &[JUDGE],
             &[JUDGE, 2, 0x96, 0xE0],
             &[14, 1],
             &[30],
-            &[32, 0],
+            &[31],
             &[255, 0],
-            &[TALLY],
-            &[TALLY, 14, 0, 0, 0, 0, 0, 0, 0, 1],
-            &[TALLY, 255, 0, 0, 0, 0, 0, 0, 0, 1],
-            &[TALLY, 0, 0, 0, 0, 0, 0, 0, 1],
-            &[TALLY, 0, 0, 0, 0, 0, 0, 0, 0, 1, 1],
             &[NEW],
             &[NEW, 2],
             &[NEW, 1, 0],
@@ -740,8 +629,7 @@ mod tests {
             let responses = run(&[OPEN_5, request, RECEIVE_5]);
             assert_eq!(responses[1], [], "{request:?}");
             let after = with_slots([1, 0, 1, 0], &SLOTS_OF_DONE_5);
-            let response = without_tallies(&responses[2], &[(0, 1)]);
-            assert_eq!(response, after, "{request:?}");
+            assert_eq!(responses[2], after, "{request:?}");
         }
     }
 

@@ -1,16 +1,14 @@
-//! A station: one format, sixteen slots, the tallies of the images judged, and
-//! the calls on them.
+//! A station: one format, sixteen slots, and the calls on them.
 //!
 //! Each call takes the station and hands back the next one; a refused call
 //! hands back the station it was given, save for the idle slot after STEP and
-//! LONG, and for the tally of an image that was judged.
+//! LONG.
 
 use crate::format::Format;
 use crate::frame::{judge, Frame};
 use crate::key::{is_bus, Key};
 use crate::refusal::Refusal;
 use crate::stream::{step, Answer, State, AREA_SIZE};
-use crate::tally::Tallies;
 
 /// The slots of a station.
 pub const SLOT_COUNT: usize = 16;
@@ -48,21 +46,18 @@ impl Slot {
 pub struct Station {
     pub format: Format,
     pub slots: [Slot; SLOT_COUNT],
-    pub tallies: Tallies,
 }
 
 impl Station {
-    /// A new station, with all slots closed and all tallies 0.
+    /// A new station, with all slots closed.
     pub fn new(format: Format) -> Station {
         Station {
             format,
             slots: [Slot::Closed; SLOT_COUNT],
-            tallies: Tallies::new(),
         }
     }
 
     /// Whether keys and states of all slots fit the format, and keys differ.
-    /// Tallies may be any numbers.
     pub fn is_sound(&self) -> bool {
         self.slots.iter().all(|slot| slot.is_sound(self.format)) && self.keys_differ()
     }
@@ -90,18 +85,12 @@ impl Station {
     }
 
     /// Receives an image from a bus; of the store only the area of the
-    /// stream concerned is written. An image that comes to be judged raises
-    /// the tally of its answer.
-    pub fn receive(mut self, bus: u8, image: &[u8], store: &mut [u8]) -> (Station, Answer) {
-        if let Err(refusal) = self.admit(bus, store) {
-            return (self, Answer::Refused(refusal));
-        }
-        let answer = match judge(self.format, image) {
+    /// stream concerned is written.
+    pub fn receive(self, bus: u8, image: &[u8], store: &mut [u8]) -> (Station, Answer) {
+        match self.admit(bus, image, store) {
             Ok(frame) => self.take(bus, &frame, store),
-            Err(refusal) => Answer::Refused(refusal),
-        };
-        self.tallies.raise(answer);
-        (self, answer)
+            Err(refusal) => (self, Answer::Refused(refusal)),
+        }
     }
 
     /// The length of the packet in a done slot.
@@ -133,31 +122,30 @@ impl Station {
         }
     }
 
-    /// The refusals of receiving that come before any look at the image.
-    fn admit(&self, bus: u8, store: &[u8]) -> Result<(), Refusal> {
+    /// The frame of an image, if nothing up to PIECE, SURPLUS included, refuses
+    /// the call.
+    fn admit<'a>(&self, bus: u8, image: &'a [u8], store: &[u8]) -> Result<Frame<'a>, Refusal> {
         self.check(store)?;
         if !is_bus(bus) {
             return Err(Refusal::Field);
         }
-        if self.tallies.any_full() {
-            return Err(Refusal::Tally);
-        }
-        Ok(())
+        judge(self.format, image)
     }
 
     /// Gives the frame to the stream of its key.
-    fn take(&mut self, bus: u8, frame: &Frame, store: &mut [u8]) -> Answer {
+    fn take(mut self, bus: u8, frame: &Frame, store: &mut [u8]) -> (Station, Answer) {
         let fields = frame.fields;
         let key = Key { bus, fields };
         for (slot, area) in self.slots.iter_mut().zip(store.chunks_exact_mut(AREA_SIZE)) {
             match slot {
                 Slot::Open { key: own, state } if *own == key => {
-                    return take_into(state, area, frame);
+                    let answer = take_into(state, area, frame);
+                    return (self, answer);
                 }
                 _ => {}
             }
         }
-        Answer::Filtered
+        (self, Answer::Filtered)
     }
 
     /// The slot that opening the key takes.
@@ -365,7 +353,7 @@ mod tests {
             for k in 0..=2 {
                 // The next piece but for its length, and a single.
                 for image in [piece(&key.fields, &packet, k), piece(&key.fields, &[7], 0)] {
-                    let before = (run.station.slots, run.store.clone());
+                    let before = (run.station, run.store.clone());
                     let short = &image[..image.len() - 1];
                     assert_eq!(run.receive(0, short), refused(Refusal::Count));
                     let header = key.fields.format().header_size();
@@ -374,7 +362,7 @@ mod tests {
                         long.resize(length, 0x77);
                         assert_eq!(run.receive(0, &long), refused(Refusal::Surplus));
                     }
-                    assert_eq!((run.station.slots, &run.store), (before.0, &before.1));
+                    assert_eq!((run.station, &run.store), (before.0, &before.1));
                 }
                 let answer = run.receive_piece(&key, &packet, k);
                 assert_eq!(answer, if k < 2 { KEPT } else { whole(20) });
@@ -472,12 +460,12 @@ mod tests {
     fn frames_of_no_open_key_are_filtered() {
         let key = extended(0, 6, 2);
         let mut run = Run::new(&[key]);
-        let before = (run.station.slots, run.store.clone());
+        let before = (run.station, run.store.clone());
         for other in [extended(1, 6, 2), extended(0, 7, 2), extended(0, 6, 3)] {
             let answer = run.receive_piece(&other, &[1], 0);
             assert_eq!(answer, Answer::Filtered);
         }
-        assert_eq!((run.station.slots, run.store), before);
+        assert_eq!((run.station, run.store), before);
     }
 
     #[test]
@@ -527,29 +515,24 @@ mod tests {
         let store = run.store.clone();
         assert_eq!(run.close(0), Ok(0));
         assert_eq!(run.store, store);
-        assert_eq!(run.station.slots, [Slot::Closed; SLOT_COUNT]);
+        assert_eq!(run.station, Station::new(Format::Extended));
     }
 
     #[test]
     fn receiving_refuses_in_order() {
         let mut run = Run::new(&[extended(0, 6, 2)]);
         let sound = run.station;
-        run.station.tallies.0[3] = u64::MAX;
-        let full = run.station;
         run.station.slots[1] = run.station.slots[0];
         run.store.push(0);
         assert_eq!(run.receive(2, &[]), refused(Refusal::State));
-        run.station = full;
+        run.station = sound;
         assert_eq!(run.receive(2, &[]), refused(Refusal::Store));
         run.store.pop();
         assert_eq!(run.receive(2, &[]), refused(Refusal::Field));
-        assert_eq!(run.receive(1, &[]), refused(Refusal::Tally));
-        assert_eq!(run.station, full);
-        run.station = sound;
         assert_eq!(run.receive(1, &[]), refused(Refusal::Length));
         let piece = [0x81, 0x45, 0x00, 0xC1, 0x10, 0x07];
         assert_eq!(run.receive(1, &piece), refused(Refusal::Piece));
-        assert_eq!(run.station.slots, sound.slots);
+        assert_eq!(run.station, sound);
         assert!(run.store.iter().all(|&byte| byte == 0xAA));
     }
 

@@ -4,14 +4,14 @@ use borrow.Rule.Slice.PartMut.{mid_of, put_mid}
 use Rattle.copying.specs.Copy.{copied}
 use Rattle.stream.specs.Answers.{meaning}
 use Rattle.station.specs.declared.Received.{Received}
-use Rattle.station.specs.Receive.{after, station_receive}
+use Rattle.station.specs.Receive.{after, receive}
 use Rattle.lister.specs.declared.Listed.{Listed}
 use Rattle.lister.specs.Listing.{listing, listing_after}
 use Rattle.lister.specs.Listing as listings
 use Rattle.calls_program.specs.declared.stations.Desk.{Desk}
 use Rattle.calls_program.specs.declared.stations.Done.{Done}
 use Rattle.calls_program.specs.Requests.{number2_at, bytes_from}
-use Rattle.calls_program.specs.Responses.{reply_bytes, reason_bytes, number2_bytes, number8_bytes, out_with_station}
+use Rattle.calls_program.specs.Responses.{reply_bytes, reason_bytes, number2_bytes, number8_bytes, out_with_slots}
 use Rattle.calls_program.specs.Desks.{as_done, lent_size, store_of, with_station, received, listing_of, with_listing, part_listed}
 use Rattle.calls_program.proofs.Parts.{part_size, part_back}
 
@@ -25,13 +25,13 @@ pub receive_done : (desk : Desk) (bytes out store image image' out' out'' : List
     → n ≡ lent_size desk bytes
     → bus' ≡ bus
     → image' ≡ image
-    → after r store ≡ station_receive desk.station (take n bytes) bus' image'
+    → after r store ≡ receive desk.station (take n bytes) bus' image'
     → out' ≡ copied out 0 (reply_bytes (meaning r.answer))
-    → done ≡ record { desk = with_station desk r.station; size = 276 }
-    → out'' ≡ out_with_station out' r.station
-    → as_done done (store ++ drop n bytes) out'' ≡ received (station_receive desk.station (store_of desk bytes) bus image) desk bytes out
-receive_done desk bytes out store image image' out' out'' r n bus bus' done n-is bus_is image_is after_is out'-is done-is out''-is =
-    rw (sym n-is) (rw (sym bus_is) (rw (sym image_is) (rw (sym after_is) (rw done-is (rw out''-is (rw out'-is refl))))))
+    → done ≡ record { desk = with_station desk r.station; size = 164 }
+    → out'' ≡ out_with_slots out' 4 r.station.slots
+    → as_done done (store ++ drop n bytes) out'' ≡ received (receive desk.station (store_of desk bytes) bus image) desk bytes out
+receive_done desk bytes out store image image' out' out'' r n bus bus' done n-is bus-is image_is after_is out'-is done-is out''-is =
+    rw (sym n-is) (rw (sym bus-is) (rw (sym image_is) (rw (sym after_is) (rw done-is (rw out''-is (rw out'-is refl))))))
 
 pub list_done : (desk : Desk) (args bytes out store part input out' : List ℕ) (n room : ℕ) (r : Listed) (next : Desk) (done : Done)
     → 16 + room ≤ length out

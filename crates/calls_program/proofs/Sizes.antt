@@ -1,10 +1,10 @@
 -- No response is longer than 40,000 bytes: what STORE shows, n of FILTER and ROW, and the rooms of LIST and END are bounded by the rules of
 -- requests, the rooms of PIECE and LINE by being a byte, a packet by its area; the others are of one size.
-use Rattle.std.proofs.Common.{◌≡◌, ℕ, suc, ◌+◌, ◌<◌, ◌≤◌, Bool, true, false, cond, ◌||◌, eqb, ltb, leb, List, [], ◌∷◌, length, get_or, sym, refl, ap, ◌∙◌, arith, eqb-true, leb-true}
+use Rattle.std.proofs.Common.{◌≡◌, ℕ, suc, ◌+◌, ◌<◌, ◌≤◌, Bool, true, false, cond, eqb, ltb, leb, List, [], ◌∷◌, length, get_or, sym, refl, ap, ◌∙◌, arith, eqb-true, leb-true}
 use Rattle.format.specs.Refusals.{Result, value, refused}
 use Rattle.format.proofs.Tests.{each}
 use Rattle.frame.specs.Judge.{Judged, judge}
-use Rattle.station.specs.Stations.{Bank, bank_of}
+use Rattle.station.specs.declared.Station.{Station}
 use Rattle.station.specs.Read.{reading, length_of, part_of}
 use Rattle.station.proofs.Handing.{has_length}
 use Rattle.calls_program.specs.declared.bench.Bench.{Bench}
@@ -46,11 +46,11 @@ judged (value j) out = omega arith
 judged (refused n) out = omega arith
 
 -- READ: a packet
-packet_small : (bank : Bank) (store : List ℕ) (slot : ℕ) → length (part_of (reading bank store slot)) ≤ 2048
-packet_small bank store slot = go (reading bank store slot) refl
+packet_small : (station : Station) (store : List ℕ) (slot : ℕ) → length (part_of (reading station store slot)) ≤ 2048
+packet_small station store slot = go (reading station store slot) refl
   where
-    go : (r : Result (List ℕ)) → r ≡ reading bank store slot → length (part_of r) ≤ 2048
-    go (value packet) e = (has_length bank store slot (length packet) (ap length_of e)).small
+    go : (r : Result (List ℕ)) → r ≡ reading station store slot → length (part_of r) ≤ 2048
+    go (value packet) e = (has_length station store slot (length packet) (ap length_of e)).small
     go (refused n) e = omega arith
 
 module _ (operation : ℕ) (args : List ℕ) (small : Bytes args) (request : is_request operation args ≡ true) where
@@ -79,7 +79,7 @@ module _ (operation : ℕ) (args : List ℕ) (small : Bytes args) (request : is_
   keeping_fits : (desk : Desk) (bytes out : List ℕ) → DeskFits (keeping_done operation args desk bytes out)
   unfolding keeping_done station_args other_args ruled among
   keeping_fits desk bytes out =
-      when DeskFits 5 _ _ (λ _. omega (arith, packet_small (bank_of desk.station) (store_of desk bytes) (byte_at args 0)))
+      when DeskFits 5 _ _ (λ _. omega (arith, packet_small desk.station (store_of desk bytes) (byte_at args 0)))
       (when DeskFits 10 _ _ (λ e. omega (arith, limit 10 (number2_at args 0 + number2_at args 2) 40000 e refl))
       (when DeskFits 11 _ _ (λ _. omega arith)
       (omega arith)))
@@ -94,8 +94,7 @@ module _ (operation : ℕ) (args : List ℕ) (small : Bytes args) (request : is_
       (when DeskFits 8 _ _ (λ _. omega arith)
       (when DeskFits 9 _ _ (λ _. omega arith)
       (when DeskFits 12 _ _ (λ _. omega arith)
-      (when DeskFits 31 _ _ (λ _. omega arith)
-      (keeping_fits desk bytes out))))))))
+      (keeping_fits desk bytes out)))))))
 
   listing_fits : (desk : Desk) (bytes out : List ℕ) → DeskFits (listing_done operation args desk bytes out)
   unfolding listing_done station_args other_args ruled among
@@ -111,8 +110,8 @@ module _ (operation : ℕ) (args : List ℕ) (small : Bytes args) (request : is_
   unfolding request_done desk_done other_done
   request_fits bench bytes out =
       either BenchFits (is_image operation) _ _ (λ _. image_fits out)
-      (either BenchFits (ltb operation 23 || eqb operation 31) _ _
-      (λ _. either BenchFits (ltb operation 13 || eqb operation 31) _ _ (λ _. station_fits bench.desk bytes out) (listing_fits bench.desk bytes out))
+      (either BenchFits (ltb operation 23) _ _
+      (λ _. either BenchFits (ltb operation 13) _ _ (λ _. station_fits bench.desk bytes out) (listing_fits bench.desk bytes out))
       (either BenchFits (ltb operation 28) _ _ (λ _. omega arith) (omega arith)))
 
 module _ (bench : Bench) (bytes out : List ℕ) where

@@ -1,6 +1,6 @@
 -- compare/PROTOCOL.md: what the program holds between requests, and what a request does to it. "A request is [..] an operation byte, and
 -- its arguments"; one that is none "has an empty response, of length 0, and changes nothing".
-use Rattle.std.specs.Prelude.{ℕ, Bool, true, cond, ◌||◌, List, [], ◌∷◌, ◌==◌, nat_le, nat_lt}
+use Rattle.std.specs.Prelude.{ℕ, Bool, true, cond, List, [], ◌∷◌, ◌==◌, nat_le, nat_lt}
 use Rattle.copying.specs.Copy.{copied}
 use Rattle.format.specs.Tests.{all_true}
 use Rattle.calls_program.specs.declared.bench.Bench.{Bench}
@@ -28,7 +28,7 @@ responded bench bytes response = record { bench = bench; bytes = bytes; response
 unfoldable pub is_image : ℕ → Bool
 is_image operation = cond (operation == 6) true (cond (operation == 7) true (all_true (nat_le 13 operation ∷ nat_lt operation 19 ∷ [])))
 
--- 1 to 12 and 31: a station; 19 to 22: a listing
+-- 1 to 12: a station; 19 to 22: a listing
 abbrev pub with_desk : Bench → DeskDone → BenchDone
 with_desk bench done =
     record {
@@ -39,7 +39,7 @@ with_desk bench done =
 
 unfoldable pub desk_done : ℕ → List ℕ → Bench → (bytes out : List ℕ) → BenchDone
 desk_done operation args bench bytes out =
-    cond (nat_lt operation 13 || operation == 31) (with_desk bench (station_done operation args bench.desk bytes out))
+    cond (nat_lt operation 13) (with_desk bench (station_done operation args bench.desk bytes out))
     (with_desk bench (listing_done operation args bench.desk bytes out))
 
 -- 23 to 27: "answer, master"; 28 to 30: "answer, watch"
@@ -62,7 +62,7 @@ other_done operation args bench bytes out =
 unfoldable pub request_done : ℕ → List ℕ → Bench → (bytes out : List ℕ) → BenchDone
 request_done operation args bench bytes out =
     cond (is_image operation) (responded bench bytes (image_done operation args out))
-    (cond (nat_lt operation 23 || operation == 31) (desk_done operation args bench bytes out) (other_done operation args bench bytes out))
+    (cond (nat_lt operation 23) (desk_done operation args bench bytes out) (other_done operation args bench bytes out))
 
 abbrev pub responding : Bench → (bytes request out : List ℕ) → BenchDone
 responding bench bytes [] out = responded bench bytes (record { size = 0; output = out })

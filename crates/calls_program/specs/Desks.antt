@@ -2,18 +2,17 @@
 -- the station and what is lent to it. The program holds "40,000 bytes [..] of which the first `lent` are lent to the calls as their store".
 use Rattle.std.specs.Prelude.{ℕ, ◌+◌, ◌%◌, cond, List, ◌++◌, length, take, drop, set, replicate, ◌==◌, nat_lt, slice_set}
 use Rattle.copying.specs.Copy.{written, copied}
-use Rattle.slot.specs.declared.Slot.{Slot}
 use Rattle.station.specs.declared.Station.{Station}
 use Rattle.station.specs.Stations as stations
-use Rattle.station.specs.Open.{StationChanged, station_open, station_close}
-use Rattle.station.specs.Receive.{StationReceived, station_receive}
+use Rattle.station.specs.Open.{StationAfter, opening, closing}
+use Rattle.station.specs.Receive.{After, receive}
 use Rattle.station.specs.Read.{reading, length_of, part_of}
 use Rattle.calls_program.specs.declared.stations.Desk.{Desk}
 use Rattle.calls_program.specs.declared.stations.Done.{Done}
 use Rattle.lister.specs.declared.Listing.{Listing}
 use Rattle.lister.specs.Listing.{AfterListing, new_listing, listing, ending}
 use Rattle.calls_program.specs.Requests.{byte_at, number2_at, number8_at, bytes_between, bytes_from, format_named, key_at, slot_named}
-use Rattle.calls_program.specs.Responses.{answer_bytes, outcome_bytes, reply_bytes, reason_bytes, out_with_station}
+use Rattle.calls_program.specs.Responses.{answer_bytes, outcome_bytes, reply_bytes, reason_bytes, out_with_slots}
 use Rattle.calls_program.specs.Responses.{number2_bytes, number8_bytes, filled_bytes}
 use Rattle.calls_program.specs.Responses.{Responded, room_for, answer_alone, lent_in}
 
@@ -40,16 +39,13 @@ with_store desk bytes store = store ++ drop (lent_size desk bytes) bytes
 abbrev pub with_station : Desk → Station → Desk
 with_station desk station = record { station = station; lent = desk.lent; front = desk.front; count = desk.count }
 
-abbrev pub with_slots_of : Station → List Slot → Station
-with_slots_of station slots = record { format = station.format; slots = slots; tallies = station.tallies }
-
 abbrev pub with_response : Desk → (bytes : List ℕ) → Responded → DeskDone
 with_response desk bytes response = record { desk = desk; bytes = bytes; response = response }
 
--- "answer, slots, tallies"
+-- "answer, slots"
 abbrev pub with_answer : Desk → (bytes answer out : List ℕ) → DeskDone
 with_answer desk bytes answer out =
-    with_response desk bytes (record { size = 276; output = out_with_station (copied out 0 answer) desk.station })
+    with_response desk bytes (record { size = 164; output = out_with_slots (copied out 0 answer) 4 desk.station.slots })
 
 -- an empty response, and nothing changed
 abbrev pub unanswered : Desk → (bytes out : List ℕ) → DeskDone
@@ -65,18 +61,18 @@ desk_renewed args desk bytes out =
     out
 
 -- 2 OPEN: "opens the key". 3 CLOSE: "closes the slot"
-abbrev pub changed : StationChanged → Desk → (bytes out : List ℕ) → DeskDone
+abbrev pub changed : StationAfter → Desk → (bytes out : List ℕ) → DeskDone
 changed after desk bytes out = with_answer (with_station desk after.station) bytes (outcome_bytes after.answer) out
 
 -- 4 RECEIVE: "receives the image at the front that is set". Either front does the same, so that no response shows which is set
-abbrev pub received : StationReceived → Desk → (bytes out : List ℕ) → DeskDone
+abbrev pub received : After → Desk → (bytes out : List ℕ) → DeskDone
 received after desk bytes out =
     with_answer (with_station desk after.station) (with_store desk bytes after.store) (reply_bytes after.answer) out
 
 -- 5 READ: "reads the slot by both calls"; "answer (the length), then the part's bytes"
 abbrev pub read_from : List ℕ → Desk → (bytes out : List ℕ) → Responded
 read_from args desk bytes out =
-    let packet = reading (stations.bank_of desk.station) (store_of desk bytes) (byte_at args 0) in
+    let packet = reading desk.station (store_of desk bytes) (byte_at args 0) in
     record {
       size = 4 + length (part_of packet);
       output = copied (copied out 0 (outcome_bytes (length_of packet))) 4 (part_of packet);
@@ -86,15 +82,8 @@ read_from args desk bytes out =
 abbrev pub slot_set : List ℕ → Desk → (bytes out : List ℕ) → DeskDone
 slot_set args desk bytes out =
     let slot = slot_named (byte_at args 1) (number2_at args 2) (key_at args 4) in
-    let station = with_slots_of desk.station (slice_set desk.station.slots (byte_at args 0 % 16) slot) in
+    let station = stations.with_slots desk.station (slice_set desk.station.slots (byte_at args 0 % 16) slot) in
     with_answer (with_station desk station) bytes (answer_bytes 5 0 0) out
-
--- 31 TALLY: "that tally becomes the value, by hand"
-abbrev pub tally_set : List ℕ → Desk → (bytes out : List ℕ) → DeskDone
-tally_set args desk bytes out =
-    let station = desk.station in
-    let tallies = slice_set station.tallies (byte_at args 0 % 14) (number8_at args 1) in
-    with_answer (with_station desk (stations.station_with (stations.bank_of station) tallies)) bytes (answer_bytes 5 0 0) out
 
 -- 9 LEND: "`lent` becomes n". 12 FRONT: "from here on images are received by the station itself (0), or over a lent table of its slots (1)"
 abbrev pub lending : List ℕ → Desk → (bytes out : List ℕ) → DeskDone
@@ -131,14 +120,13 @@ unfoldable pub station_done : ℕ → List ℕ → Desk → (bytes out : List �
 station_done operation args desk bytes out =
     let station = desk.station in
     cond (operation == 1) (desk_renewed args desk bytes out)
-    (cond (operation == 2) (changed (station_open station (key_at args 0)) desk bytes out)
-    (cond (operation == 3) (changed (station_close station (byte_at args 0)) desk bytes out)
-    (cond (operation == 4) (received (station_receive station (store_of desk bytes) (byte_at args 0) (bytes_from args 1)) desk bytes out)
+    (cond (operation == 2) (changed (opening station (key_at args 0)) desk bytes out)
+    (cond (operation == 3) (changed (closing station (byte_at args 0)) desk bytes out)
+    (cond (operation == 4) (received (receive station (store_of desk bytes) (byte_at args 0) (bytes_from args 1)) desk bytes out)
     (cond (operation == 8) (slot_set args desk bytes out)
     (cond (operation == 9) (lending args desk bytes out)
     (cond (operation == 12) (front_set args desk bytes out)
-    (cond (operation == 31) (tally_set args desk bytes out)
-    (keeping_done operation args desk bytes out))))))))
+    (keeping_done operation args desk bytes out)))))))
 
 -- ---- listings: "A listing has the station's slots for its own, whatever the station's format is, and the count."
 
@@ -148,7 +136,7 @@ listing_of desk = record { slots = desk.station.slots; count = desk.count }
 abbrev pub with_listing : Desk → Listing → Desk
 with_listing desk listing =
     record {
-      station = with_slots_of desk.station listing.slots;
+      station = stations.with_slots desk.station listing.slots;
       lent = desk.lent;
       front = desk.front;
       count = listing.count;

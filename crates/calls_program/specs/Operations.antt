@@ -36,7 +36,7 @@ args_fit operation size =
     ∷ rule (24 ∷ 29 ∷ []) (size == 5)
     ∷ rule (2 ∷ []) (size == 7)
     ∷ rule (15 ∷ 20 ∷ []) (size == 8)
-    ∷ rule (6 ∷ 31 ∷ []) (size == 9)
+    ∷ rule (6 ∷ []) (size == 9)
     ∷ rule (8 ∷ []) (size == 11)
     ∷ rule (16 ∷ []) (size == 12)
     ∷ rule (18 ∷ []) (size == 30)
@@ -48,8 +48,7 @@ args_fit operation size =
     ∷ [])
     false
 
--- what the tables rule out: a format over 1, a front over 1; a slot over 15, a kind of it over 3; more bytes than there are; a tally
--- over 13
+-- what the tables rule out: a format over 1, a front over 1; a slot over 15, a kind of it over 3; more bytes than there are
 unfoldable pub station_args : ℕ → List ℕ → (others : Bool) → Bool
 station_args operation args others =
     ruled operation
@@ -59,7 +58,6 @@ station_args operation args others =
     ∷ rule (8 ∷ []) (all_true (nat_le (byte_at args 0) 15 ∷ nat_le (byte_at args 1) 3 ∷ nat_le (byte_at args 5) 1 ∷ []))
     ∷ rule (9 ∷ []) (nat_le (number2_at args 0) 40000)
     ∷ rule (10 ∷ []) (nat_le (number2_at args 0 + number2_at args 2) 40000)
-    ∷ rule (31 ∷ []) (nat_le (byte_at args 0) 13)
     ∷ [])
     others
 

@@ -85,7 +85,7 @@ refusal_table =
     refusal.Length ∷ refusal.Form ∷ refusal.Remote ∷ refusal.Count ∷ refusal.Piece
     ∷ refusal.Orphan ∷ refusal.Step ∷ refusal.Long ∷ refusal.Field ∷ refusal.Size ∷ refusal.Index
     ∷ refusal.Room ∷ refusal.Store ∷ refusal.Taken ∷ refusal.Full ∷ refusal.Closed ∷ refusal.NoPacket
-    ∷ refusal.Busy ∷ refusal.Idle ∷ refusal.NotAwaited ∷ refusal.Surplus ∷ refusal.Tally ∷ []
+    ∷ refusal.Busy ∷ refusal.Idle ∷ refusal.NotAwaited ∷ refusal.Surplus ∷ []
 
 abbrev pub named_in : List Refusal → (n : ℕ) → Refusal
 named_in [] n = refusal.State

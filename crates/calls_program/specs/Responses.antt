@@ -20,7 +20,6 @@ use Rattle.watch.specs.declared.Watch.{Watch}
 use Rattle.slot.specs.declared.Occupancy.{Occupancy}
 use Rattle.slot.specs.declared.Occupancy.TheVariants.{Closed, Open}
 use Rattle.slot.specs.declared.Slot.{Slot}
-use Rattle.station.specs.declared.Station.{Station}
 
 -- "A number that a call answers or hands back is 65,535 in two bytes if it is larger, which none is."
 unfoldable pub capped : ℕ → ℕ
@@ -74,24 +73,10 @@ abbrev pub occupancy_bytes : Occupancy → List ℕ
 occupancy_bytes Closed = replicate 10 0
 occupancy_bytes (Open stream) = progress_bytes stream.progress stream.key.bus ++ field_bytes stream.key.fields
 
--- an output with some things written from a place on, one after the other, each in so many bytes
-unfoldable pub out_with_each : {A : Type 0} → (bytes_of : A → List ℕ) → (size : ℕ) → List ℕ → (at : ℕ) → List A → List ℕ
-out_with_each bytes_of size out at [] = out
-out_with_each bytes_of size out at (x ∷ xs) = out_with_each bytes_of size (copied out at (bytes_of x)) (at + size) xs
-
-abbrev pub slot_bytes : Slot → List ℕ
-slot_bytes slot = occupancy_bytes slot.occupancy
-
-abbrev pub out_with_slots : List ℕ → (at : ℕ) → List Slot → List ℕ
-out_with_slots out at slots = out_with_each slot_bytes 10 out at slots
-
--- "Tallies are 14 numbers of 8 bytes"
-abbrev pub out_with_tallies : List ℕ → (at : ℕ) → List ℕ → List ℕ
-out_with_tallies out at tallies = out_with_each number8_bytes 8 out at tallies
-
--- "slots, tallies", behind an answer
-abbrev pub out_with_station : List ℕ → Station → List ℕ
-out_with_station out station = out_with_tallies (out_with_slots out 4 station.slots) 164 station.tallies
+-- an output with slots written from a place on, one after the other
+unfoldable pub out_with_slots : List ℕ → (at : ℕ) → List Slot → List ℕ
+out_with_slots out at [] = out
+out_with_slots out at (slot ∷ slots) = out_with_slots (copied out at (occupancy_bytes slot.occupancy)) (at + 10) slots
 
 -- 6 send: the bus. 7 done. 8 gave up
 abbrev pub told_bytes : Result Told → List ℕ

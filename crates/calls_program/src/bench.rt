@@ -4,7 +4,7 @@ ghost use Rattle.std.specs.Prelude.{◌≡◌, ℕ, ◌≤◌, List};
 ghost use Rattle.calls_program.specs.Working.{first_bench};
 ghost use Rattle.calls_program.specs.Benches.{as_bench, is_image, desk_done, other_done, responding};
 
-use crate::operations::{COUNT, JUDGE, LISTING, MASTER, PIECE, TALLY, WATCH, is_request};
+use crate::operations::{COUNT, JUDGE, LISTING, MASTER, PIECE, WATCH, is_request};
 use crate::stations::Desk;
 use crate::{images, listings, masters, stations, watches};
 use format::Format;
@@ -92,7 +92,7 @@ fn change_desk(bench: Bench, bytes: &mut [u8], operation: u8, args: &[u8], out: 
     ensures { as_bench result bytes.new out.new ≡ desk_done operation args.now bench bytes.old out.old }
 {
     let desk = bench.desk;
-    if (operation < JUDGE) | (operation == TALLY) {
+    if operation < JUDGE {
         return with_desk(bench, stations::respond(desk, bytes, operation, args, out));
     }
     with_desk(bench, listings::respond(desk, bytes, operation, args, out))
@@ -127,7 +127,7 @@ pub fn respond(bench: Bench, bytes: &mut [u8], request: &[u8], out: &mut [u8]) -
     if is_image(operation) {
         return kept(bench, images::respond(operation, args, out));
     }
-    if (operation < MASTER) | (operation == TALLY) {
+    if operation < MASTER {
         return change_desk(bench, bytes, operation, args, out);
     }
     change_other(bench, operation, args, out)

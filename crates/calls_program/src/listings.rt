@@ -27,7 +27,7 @@ const WITH_SIZES: usize = 16;
 
 // The desk with the slots and the count of a listing.
 fn with_listing(desk: Desk, listing: Listing) -> Desk
-    ensures { result ≡ with_listing desk listing }
+    ensures { result ≡ record { station = record { format = desk.station.format; slots = listing.slots }; lent = desk.lent; front = desk.front; count = listing.count } }
 {
     let slots = listing.slots;
     let mut station = desk.station;
@@ -51,7 +51,7 @@ fn listing_of(desk: Desk) -> Listing
 
 // A new listing, or one by hand with that count.
 fn set(desk: Desk, listing: Listing, out: &mut [u8]) -> Done
-    ensures value { result ≡ record { desk = with_listing desk listing; size = 12 } }
+    ensures value { result ≡ record { desk = record { station = record { format = desk.station.format; slots = listing.slots }; lent = desk.lent; front = desk.front; count = listing.count }; size = 12 } }
     ensures out_after { out.new ≡ copied (copied out.old 0 (answer_bytes 5 0 0)) 4 (number8_bytes listing.count) }
 {
     put_value(out, 0);

@@ -65,8 +65,6 @@ pub const HEARD: u8 = 29;
 
 pub const CHECK: u8 = 30;
 
-pub const TALLY: u8 = 31;
-
 // How many bytes the program holds of which a part is lent.
 pub const BYTES: usize = 40000;
 
@@ -90,7 +88,7 @@ fn fits(operation: u8, size: usize) -> bool
         EXCHANGE | HEARD => size == 5,
         OPEN => size == 7,
         FILTER | LISTED => size == 8,
-        COUNT | TALLY => size == 9,
+        COUNT => size == 9,
         SLOT => size == 11,
         ROW => size == 12,
         LINE => size == 30,
@@ -114,7 +112,6 @@ fn within(operation: u8, args: &[u8]) -> bool
         SLOT => (byte(args, 0) <= 15) & (byte(args, 1) <= 3) & (byte(args, 5) <= 1),
         LEND => number(args, 0) <= BYTES,
         STORE => number(args, 0) + number(args, 2) <= BYTES,
-        TALLY => byte(args, 0) <= 13,
         _ => within_others(operation, args),
     }
 }

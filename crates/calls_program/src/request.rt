@@ -166,7 +166,6 @@ pub fn refusal_of(number: u8) -> Refusal
         19 => Refusal::Idle,
         20 => Refusal::NotAwaited,
         25 => Refusal::Surplus,
-        26 => Refusal::Tally,
         _ => Refusal::State,
     }
 }

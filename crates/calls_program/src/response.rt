@@ -4,7 +4,7 @@ ghost use Rattle.std.specs.Prelude.{◌≡◌, ◌<◌, length, replicate};
 ghost use Rattle.copying.specs.Copy.{copied};
 ghost use Rattle.format.specs.Refusals as refusals;
 ghost use Rattle.stream.specs.Answers as answers;
-ghost use Rattle.calls_program.specs.Responses.{number2_bytes, number4_bytes, number8_bytes, answer_bytes, outcome_bytes, reply_bytes, out_with_slots, out_with_tallies};
+ghost use Rattle.calls_program.specs.Responses.{number2_bytes, number4_bytes, number8_bytes, answer_bytes, outcome_bytes, reply_bytes, out_with_slots};
 ghost use Rattle.calls_program.specs.Responses as responses;
 
 use copying::copy_in;
@@ -17,10 +17,7 @@ use stream::{Answer, Progress};
 pub const ANSWER: usize = 4;
 
 // The size of an answer with the sixteen slots, of ten bytes each.
-const WITH_SLOTS: usize = 164;
-
-// The size of an answer with the slots and the fourteen tallies, of eight bytes each.
-pub const WITH_STATION: usize = 276;
+pub const WITH_SLOTS: usize = 164;
 
 // Each byte is a step more than the one before it, modulo 256.
 pub fn fill(bytes: &mut [u8], first: u8, step: u8)
@@ -225,18 +222,6 @@ pub fn put_slots(out: &mut [u8], station: Station)
     while i < 16 {
         let slot = slots[i];
         put_slot(out, ANSWER + 10 * i, slot);
-        i += 1;
-    }
-}
-
-// The fourteen tallies, after the slots.
-pub fn put_tallies(out: &mut [u8], station: Station)
-    ensures { out.new ≡ out_with_tallies out.old 164 station.tallies }
-{
-    let tallies = station.tallies;
-    let mut i = 0;
-    while i < 14 {
-        put_long(out, WITH_SLOTS + 8 * i, tallies[i]);
         i += 1;
     }
 }

@@ -8,13 +8,11 @@ ghost use Rattle.station.specs.Receive as receiving;
 ghost use Rattle.calls_program.specs.Desks.{as_done, lent_size, store_of, slot_set, keeping_done, station_done};
 ghost use Rattle.calls_program.specs.Desks as desks;
 ghost use Rattle.calls_program.specs.Requests.{byte_at, key_at, slot_named, bytes_from};
-ghost use Rattle.calls_program.specs.Responses.{answer_bytes, filled_bytes, out_with_station};
+ghost use Rattle.calls_program.specs.Responses.{answer_bytes, filled_bytes, out_with_slots};
 
-use crate::operations::{CLOSE, FILL, FRONT, LEND, NEW, OPEN, READ, RECEIVE, SLOT, STORE, TALLY};
-use crate::request::{byte, format_of, key, long, number, part, rest};
-use crate::response::{
-    ANSWER, WITH_STATION, fill, put_outcome, put_received, put_slots, put_tallies, put_value,
-};
+use crate::operations::{CLOSE, FILL, FRONT, LEND, NEW, OPEN, READ, RECEIVE, SLOT, STORE};
+use crate::request::{byte, format_of, key, number, part, rest};
+use crate::response::{ANSWER, WITH_SLOTS, fill, put_outcome, put_received, put_slots, put_value};
 use copying::copy_in;
 use format::Format;
 use slot::{Key, Occupancy, Slot, Stream};
@@ -61,17 +59,16 @@ pub fn kept(desk: Desk, size: usize) -> Done
     }
 }
 
-// The response to a call that hands a station back: the answer, which is written already, its slots
-// and its tallies.
+// The response to a call that hands a station back: the answer, which is written already, and its
+// slots.
 fn changed(desk: Desk, station: Station, out: &mut [u8]) -> Done
-    ensures value { result ≡ record { desk = record { station = station; lent = desk.lent; front = desk.front; count = desk.count }; size = 276 } }
-    ensures out_after { out.new ≡ out_with_station out.old station }
+    ensures value { result ≡ record { desk = record { station = station; lent = desk.lent; front = desk.front; count = desk.count }; size = 164 } }
+    ensures out_after { out.new ≡ out_with_slots out.old 4 station.slots }
 {
     let mut next = desk;
     next.station = station;
     put_slots(out, station);
-    put_tallies(out, station);
-    kept(next, WITH_STATION)
+    kept(next, WITH_SLOTS)
 }
 
 // The response to opening or closing.
@@ -95,14 +92,14 @@ fn renew(desk: Desk, bytes: &mut [u8], args: &[u8], out: &mut [u8]) -> Done
 }
 
 fn open(desk: Desk, args: &[u8], out: &mut [u8]) -> Done
-    ensures { (bytes : List ℕ) → as_done result bytes out.new ≡ desks.changed (opening.station_open desk.station (key_at args.now 0)) desk bytes out.old }
+    ensures { (bytes : List ℕ) → as_done result bytes out.new ≡ desks.changed (opening.opening desk.station (key_at args.now 0)) desk bytes out.old }
 {
     let station = desk.station;
     put_changed(desk, station.open(key(args, 0)), out)
 }
 
 fn close(desk: Desk, args: &[u8], out: &mut [u8]) -> Done
-    ensures { (bytes : List ℕ) → as_done result bytes out.new ≡ desks.changed (opening.station_close desk.station (byte_at args.now 0)) desk bytes out.old }
+    ensures { (bytes : List ℕ) → as_done result bytes out.new ≡ desks.changed (opening.closing desk.station (byte_at args.now 0)) desk bytes out.old }
 {
     let station = desk.station;
     put_changed(desk, station.close(byte(args, 0) as usize), out)
@@ -119,19 +116,17 @@ pub fn lent_size(desk: Desk, bytes: &[u8]) -> usize
     desk.lent
 }
 
-// Over a lent table of the station's slots, and its tallies lent beside it.
+// Over a lent table of the station's slots.
 fn receive_over_table(station: Station, store: &mut [u8], bus: u8, image: &[u8]) -> Received
-    ensures { receiving.after result store.new ≡ receiving.station_receive station store.old bus image.now }
+    ensures { receiving.after result store.new ≡ receiving.receive station store.old bus image.now }
 {
     let mut next = station;
     let format = station.format;
     let slots = station.slots;
-    let mut tallies = station.tallies;
-    let lent = table::receive_by_value(format, slots, &mut tallies, store, bus, image);
+    let lent = table::receive_by_value(format, slots, store, bus, image);
     let answer = lent.answer;
     let table = lent.table;
     next.slots = table;
-    next.tallies = tallies;
     Received {
         station: next,
         answer: answer,
@@ -140,7 +135,7 @@ fn receive_over_table(station: Station, store: &mut [u8], bus: u8, image: &[u8])
 
 // At the front that is set.
 fn received(desk: Desk, store: &mut [u8], bus: u8, image: &[u8]) -> Received
-    ensures { receiving.after result store.new ≡ receiving.station_receive desk.station store.old bus image.now }
+    ensures { receiving.after result store.new ≡ receiving.receive desk.station store.old bus image.now }
 {
     let station = desk.station;
     if desk.front == 0 {
@@ -150,7 +145,7 @@ fn received(desk: Desk, store: &mut [u8], bus: u8, image: &[u8]) -> Received
 }
 
 fn receive(desk: Desk, bytes: &mut [u8], args: &[u8], out: &mut [u8]) -> Done
-    ensures { as_done result bytes.new out.new ≡ desks.received (receiving.station_receive desk.station (store_of desk bytes.old) (byte_at args.now 0) (bytes_from args.now 1)) desk bytes.old out.old }
+    ensures { as_done result bytes.new out.new ≡ desks.received (receiving.receive desk.station (store_of desk bytes.old) (byte_at args.now 0) (bytes_from args.now 1)) desk bytes.old out.old }
 {
     let n = lent_size(desk, bytes);
     let r = received(desk, &mut bytes[..n], byte(args, 0), rest(args, 1));
@@ -190,17 +185,6 @@ fn set_slot(desk: Desk, args: &[u8], out: &mut [u8]) -> Done
     let mut station = desk.station;
     let slot = slot_of(byte(args, 1), number(args, 2) as u16, key(args, 4));
     station.slots[i] = slot;
-    put_value(out, 0);
-    changed(desk, station, out)
-}
-
-// A tally by hand: there are fourteen.
-fn set_tally(desk: Desk, args: &[u8], out: &mut [u8]) -> Done
-    ensures { (bytes : List ℕ) → as_done result bytes out.new ≡ desks.tally_set args.now desk bytes out.old }
-{
-    let i = (byte(args, 0) % 14) as usize;
-    let mut station = desk.station;
-    station.tallies[i] = long(args, 1);
     put_value(out, 0);
     changed(desk, station, out)
 }
@@ -284,7 +268,6 @@ pub fn respond(desk: Desk, bytes: &mut [u8], operation: u8, args: &[u8], out: &m
         SLOT => set_slot(desk, args, out),
         LEND => lend(desk, args, out),
         FRONT => set_front(desk, args, out),
-        TALLY => set_tally(desk, args, out),
         _ => kept(desk, ask(desk, bytes, operation, args, out)),
     }
 }

@@ -1,6 +1,6 @@
 -- The documents' figures once more, as literals: document 01, "Refusal numbers" (the table's 21), "Frame images" (the flags' bits),
--- "Splitting" (the limits of each format, and the ends of each field's range); document 02, L4 (25) and L5 (26). A figure changed alike in
--- a definition and in the code breaks the claim. proofs/Bounds.antt proves it.
+-- "Splitting" (the limits of each format, and the ends of each field's range); document 02, L4 (25). A figure changed alike in a definition
+-- and in the code breaks the claim. proofs/Bounds.antt proves it.
 use Rattle.std.specs.Prelude.{ℕ, ◌≡◌, Bool, true, false, List, [], ◌∷◌, replicate}
 use Rattle.format.specs.declared.Format.{Format}
 use Rattle.format.specs.declared.Format.TheVariants.{Extended, Standard}
@@ -32,7 +32,6 @@ use Rattle.format.specs.declared.Refusal.TheVariants.{
   NotAwaited,
   State,
   Surplus,
-  Tally,
 }
 use Rattle.format.specs.Formats.{packet_limit, piece_size, header_size, number_range, flag_bits, packet_start, in_range}
 use Rattle.format.specs.Refusals.{Result, value, refused, number}
@@ -77,7 +76,6 @@ table =
     ∷ numbers NotAwaited 20
     ∷ numbers State 21
     ∷ numbers Surplus 25
-    ∷ numbers Tally 26
     -- 01 start, 00 middle, 10 end, 11 single
     ∷ bits Start 0b01
     ∷ bits Middle 0b00

@@ -1,5 +1,5 @@
 -- Document 01, "Refusal numbers": the table's numbers and names, "Each returns its number", and what an order of refusals means. Document
--- 02 adds 25 (L4) and 26 (L5). The numbers have gaps.
+-- 02 adds 25 (L4). The numbers have gaps.
 use Rattle.std.specs.Prelude.{ℕ, Bool, cond, List, [], ◌∷◌}
 use Rattle.format.specs.declared.Refusal.{Refusal}
 use Rattle.format.specs.declared.Refusal.TheVariants.{
@@ -25,7 +25,6 @@ use Rattle.format.specs.declared.Refusal.TheVariants.{
   NotAwaited,
   State,
   Surplus,
-  Tally,
 }
 use Rattle.format.specs.declared.Outcome.{Outcome}
 use Rattle.format.specs.declared.Outcome.TheVariants.{Value, Refused}
@@ -53,7 +52,6 @@ number Idle = 19
 number NotAwaited = 20
 number State = 21
 number Surplus = 25
-number Tally = 26
 
 -- what a call gives: a value, or a refusal's number
 pub data Result (A : Type 0) : Type 0 where

@@ -220,7 +220,6 @@ pub enum Refusal {
     NotAwaited,
     State,
     Surplus,
-    Tally,
 }
 
 impl Refusal {
@@ -250,7 +249,6 @@ impl Refusal {
             Refusal::NotAwaited => 20,
             Refusal::State => 21,
             Refusal::Surplus => 25,
-            Refusal::Tally => 26,
         }
     }
 }

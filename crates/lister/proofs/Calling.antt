@@ -20,7 +20,7 @@ use Rattle.lister.specs.Listing.{Reached, listed, handed_back, begun, listing, l
 
 module _ (l : Listing) (store taken output : List ℕ) where
   abbrev all_of_it : Reached
-  all_of_it = listed (room.has_room output) (begun l store taken)
+  all_of_it = listed (length taken) (room.has_room output) (begun l store taken)
 
   pub at_state : not (sound Extended l.slots) ≡ true
       → listing_after (record { listing = l; why = Refused State; used = 0; written = 0 }) store output ≡ listing l store taken output

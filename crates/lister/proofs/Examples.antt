@@ -12,15 +12,15 @@ use Rattle.slot.specs.Sound.{key_in_range, fits, slot_sound, slots_sound, any, k
 use Rattle.station.specs.Stations.{area, with_area}
 use Rattle.station.specs.Receive.{step_at, deliver, receive}
 use Rattle.station.specs.Open.{opening}
-use Rattle.trace.specs.Records.{found_by, record_at, records_within, records_in}
-use Rattle.trace.specs.Lines.{digits, decimal, field_text, fields_text, header_line, frame_line, refused_line, stopped_line, total_line, count_line}
+use Rattle.trace.specs.Records.{found_by, record_at}
+use Rattle.trace.specs.Lines.{digits, decimal, field_text, fields_text, header_line, frame_line, refused_line, stopped_line, count_line}
 use Rattle.trace.specs.Bounds.{results, expected}
-use Rattle.lister.specs.Listing.{heard, listed_one, listed_all, listed}
+use Rattle.lister.specs.Listing.{heard, listed_one, listed}
 use Rattle.lister.specs.Claims.{program}
 use Rattle.lister.specs.Examples.{ListingExamples, ListingBounds}
 
 both : ListingExamples × ListingBounds
-unfolding ListingExamples ListingBounds results expected program listed listed_all listed_one heard records_in records_within found_by record_at all_true all_after in_range guarded checked_then written flag_of layout piece_rule checks judge follows progress_after followed stepped step same_fields same_key place key_in_range fits slot_sound slots_sound any keys_differ sound area with_area step_at deliver receive opening digits decimal field_text fields_text header_line frame_line refused_line stopped_line total_line count_line
+unfolding ListingExamples ListingBounds results expected program listed listed_one heard found_by record_at all_true all_after in_range guarded checked_then written flag_of layout piece_rule checks judge follows progress_after followed stepped step same_fields same_key place key_in_range fits slot_sound slots_sound any keys_differ sound area with_area step_at deliver receive opening digits decimal field_text fields_text header_line frame_line refused_line stopped_line count_line
 both = (refl, refl)
 
 pub listing_examples : ListingExamples

@@ -1,7 +1,6 @@
 mod Answers
-pub mod Hearing
+mod Hearing
 mod Placing
-pub mod Keeping
 mod Rounds
 mod Calling
 mod Soundness

@@ -1,64 +1,104 @@
 -- One record after the other.
-use Rattle.std.proofs.Common.{◌≡◌, ℕ, ◌+◌, ◌-◌, ◌<◌, ◌≤◌, Bool, true, cond, List, ◌++◌, length, take, drop, set, sym, refl, ap, ◌∙◌, subst, arith, length-drop, take-append-drop, length-take-le, drop-drop, le-leb}
+use Rattle.std.proofs.Common.{◌≡◌, ℕ, zero, suc, ◌+◌, ◌-◌, ◌<◌, ◌≤◌, Bool, true, cond, List, ◌++◌, length, take, drop, set, sym, refl, ap, ◌∙◌, subst, sub-one, arith, length-drop, take-append-drop, length-take-le, drop-drop, eq-eqb, le-leb}
+use native.Mathlib.Nat.{sub-zero}
 use borrow.Author.Tests.{lt-leb}
 use Rattle.format.specs.declared.Format.TheVariants.{Extended}
-use Rattle.format.specs.Refusals.{value}
-use Rattle.frame.specs.Calls.{Call}
-use Rattle.frame.specs.Judge.{judge}
+use Rattle.format.specs.declared.Refusal.TheVariants as refusal
+use Rattle.format.specs.Refusals.{Result, value, refused, guarded}
+use Rattle.frame.specs.Judge.{Judged, judge}
+use Rattle.stream.specs.declared.Progress.TheVariants.{Idle}
 use Rattle.slot.specs.declared.Slot.{Slot}
+use Rattle.slot.specs.Slots.{open_slot, is_closed, place}
 use Rattle.slot.specs.Sound.{sound}
-use Rattle.trace.specs.Records.{Found, whole, damaged, cut, none, image_in, record_at}
+use Rattle.station.specs.declared.Station.{Station}
+use Rattle.station.specs.Stations.{sound_station}
+use Rattle.station.specs.Receive.{After, key_of, receive}
+use Rattle.station.specs.Open.{changed_at, opening}
+use Rattle.station.proofs.Calls.{good, stays_sound}
+use Rattle.station.proofs.Isolation.{after_call}
+use Rattle.station.proofs.Soundness.{stays, open_checks}
+use Rattle.station.proofs.Turning.{rest_is}
+use Rattle.trace.specs.declared.Entry.{Entry}
+use Rattle.trace.specs.Records as records
+use Rattle.trace.specs.Records.{Found, whole, damaged, cut, none, image_in, found_by, record_at}
 use Rattle.trace.specs.Lines.{line_text}
 use Rattle.trace.specs.Claims.{Sized, RoomForLine}
 use Rattle.trace.proofs.Arriving.{sized}
-use Rattle.trace.proofs.Records.{headed_by, by_records, image_read}
 use Rattle.trace.proofs.LineRoom.{room_for_line}
 use Rattle.lister.specs.declared.Listing.{Listing}
 use Rattle.lister.specs.declared.Told.{Told}
 use Rattle.lister.specs.declared.Why.{Why}
 use Rattle.lister.specs.declared.Why.TheVariants as why
-use Rattle.lister.specs.Listing.{extended_bank, heard, line_for, next, Stand, listed_one, Reason, input, room, damage, Reached, reached, listed_all, listed, has_room, handed_back, begun, meaning, listing_after}
+use Rattle.lister.specs.Listing.{extended_station, opened_for, heard, line_for, next, Stand, listed_one, Reason, input, room, damage, Reached, reached, listed_by, listed, has_room, handed_back, begun, meaning, listing_after}
 use Rattle.lister.specs.Parts.{Tells, Adds}
-use Rattle.lister.proofs.Keeping.{kept}
+
+-- ---- what hearing a record keeps
+
+handed_format : (station : Station) (slot : Slot) (r : Result ℕ) → (changed_at station slot r).station.format ≡ station.format
+handed_format station slot (refused n) = refl
+handed_format station slot (value i) = refl
+
+opened_format : (station : Station) (bus : ℕ) (j : Result Judged) → (opened_for station bus j).format ≡ station.format
+unfolding opening
+opened_format station bus (refused n) = refl
+opened_format station bus (value judged) =
+    let key = key_of bus judged.frame in
+    handed_format station (open_slot key Idle) (guarded (open_checks station key) (place is_closed station.slots))
+
+opened_sound : (station : Station) (bus : ℕ) (j : Result Judged) → sound_station station ≡ true → sound_station (opened_for station bus j) ≡ true
+opened_sound station bus (refused n) s = s
+opened_sound station bus (value judged) s = stays.opens station s (key_of bus judged.frame)
+
+pub record Keeps (r : After) : Type 0 where
+  pub slots : sound Extended r.station.slots ≡ true
+  pub store : length r.store ≡ 32768
+
+pub kept : (slots : List Slot) (store : List ℕ) (bus : ℕ) (image : List ℕ) → sound Extended slots ≡ true → length store ≡ 32768
+    → Keeps (heard (extended_station slots) store bus image)
+unfolding heard
+kept slots store bus image s w =
+    let j = judge Extended image in
+    let station = opened_for (extended_station slots) bus j in
+    let c = after_call station store (good station store (opened_sound (extended_station slots) bus j s) (eq-eqb _ _ w)) bus image in
+    let f : (receive station store bus image).station.format ≡ Extended = c.1 ∙ opened_format (extended_station slots) bus j in
+    record { slots = rw f at (stays_sound _ _ c.0); store = c.0.whole }
 
 -- ---- rounds
 
-abbrev pub call : (bus : ℕ) → List ℕ → Call
-call bus image = record { bus = bus; image = image }
+-- a record takes some of what is left
+taken : (rest : List ℕ) (bus : ℕ) (image : List ℕ) (size n : ℕ) → record_at rest ≡ whole bus image size → length rest ≤ suc n → length (drop size rest) ≤ n
+unfolding Sized
+taken rest bus image size n e h = omega (arith, (sized rest bus image size e).0, length-drop size rest)
 
--- what stands at the head of what is left is listed, and then what follows it
-abbrev pub listed_by : (space : ℕ → Bool) → Stand → Found → (Stand → Reached) → Reached
-listed_by space s none following = reached input s
-listed_by space s cut following = reached input s
-listed_by space s damaged following = reached damage s
-listed_by space s (whole bus image size) following =
-    cond (space (length s.text)) (following (listed_one s (call bus image))) (reached room s)
+-- nothing is left
+none_left : (rest : List ℕ) → length rest ≡ 0 → record_at rest ≡ none
+unfolding record_at found_by
+none_left rest e = rw (lt-leb 1 (length rest) (omega arith))
 
--- what is left once a record is listed
-pub rest_after : (s : Stand) (bus : ℕ) (image : List ℕ) (size : ℕ) → record_at s.rest ≡ whole bus image size
-    → (listed_one s (call bus image)).rest ≡ drop size s.rest
-unfolding listed_one Sized
-rest_after s bus image size e = ap (λ (n : ℕ). drop n s.rest) (sym (sized s.rest bus image size e).0)
-
-pub unrolled : (space : ℕ → Bool) (s : Stand) → listed space s ≡ listed_by space s (record_at s.rest) (listed space)
-unfolding listed listed_all
-unrolled space s = go (record_at s.rest) refl
+-- more rounds than there are bytes left change nothing
+pub enough : (a b : ℕ) (space : ℕ → Bool) (s : Stand) → length s.rest ≤ a → length s.rest ≤ b → listed a space s ≡ listed b space s
+unfolding listed listed_one
+enough zero zero space s ha hb = refl
+enough zero (suc b) space s ha hb = rw (none_left s.rest (omega arith))
+enough (suc a) zero space s ha hb = rw (none_left s.rest (omega arith))
+enough (suc a) (suc b) space s ha hb = go (record_at s.rest) refl (λ bus image size e. enough a b space (listed_one s bus image size) (left e ha) (left e hb))
   where
-    go : (f : Found) → record_at s.rest ≡ f → listed space s ≡ listed_by space s f (listed space)
-    go none e = rw (headed_by s.rest none e)
-    go cut e = rw (headed_by s.rest cut e)
-    go damaged e = rw (headed_by s.rest damaged e)
-    go (whole bus image size) e = rw (headed_by s.rest (whole bus image size) e, rest_after s bus image size e)
+    left : {bus : ℕ} {image : List ℕ} {size n : ℕ} → record_at s.rest ≡ whole bus image size → length s.rest ≤ suc n → length (listed_one s bus image size).rest ≤ n
+    left {bus} {image} {size} {n} e h = taken s.rest bus image size n e h
 
--- what holds where a listing stands if it holds once the next record is listed, holds wherever it stands
-pub by_listing : (P : Stand → Type 0)
-    → ((s : Stand) → ((bus : ℕ) (image : List ℕ) (size : ℕ) → record_at s.rest ≡ whole bus image size → P (listed_one s (call bus image))) → P s)
-    → (s : Stand) → P s
-by_listing P step s =
-    by_records (λ (rest : List ℕ). (t : Stand) → t.rest ≡ rest → P t)
-    (λ rest ih t e. step t (λ bus image size f.
-    ih bus image size (ap record_at (sym e) ∙ f) (listed_one t (call bus image)) (rest_after t bus image size f ∙ ap (drop size) e)))
-    s.rest s refl
+    go : (f : Found) → record_at s.rest ≡ f
+        → ((bus : ℕ) (image : List ℕ) (size : ℕ) → record_at s.rest ≡ whole bus image size → listed a space (listed_one s bus image size) ≡ listed b space (listed_one s bus image size))
+        → listed_by space s f (listed a space) ≡ listed_by space s f (listed b space)
+    go none e ih = refl
+    go cut e ih = refl
+    go damaged e ih = refl
+    go (whole bus image size) e ih = ap (λ (x : Reached). cond (space (length s.text)) x (reached room s)) (ih bus image size e)
+
+-- as many rounds as there are bytes left, one by one
+pub unrolled : (n : ℕ) (space : ℕ → Bool) (s : Stand) → length s.rest ≤ n → listed n space s ≡ listed_by space s (record_at s.rest) (listed (n - 1) space)
+unfolding listed
+unrolled zero space s h = sym (rw (none_left s.rest (omega arith)))
+unrolled (suc n) space s h = rw (sub-one (suc n))
 
 -- ---- in the midst of the input
 
@@ -76,13 +116,13 @@ pub record Midst (slots₀ : List Slot) (count₀ : ℕ) (store₀ taken output�
   pub in_output : written ≤ length output₀
   pub size : length output ≡ length output₀
   pub tail : drop written output ≡ drop written output₀
-  pub going : listed (has_room output₀) (begun (beginning slots₀ count₀) store₀ taken)
-      ≡ listed (has_room output₀) (stand slots store count taken used output written)
+  pub going : listed (length taken) (has_room output₀) (begun (beginning slots₀ count₀) store₀ taken)
+      ≡ listed (length taken - used) (has_room output₀) (stand slots store count taken used output written)
 
 pub midst : (slots : List Slot) (count : ℕ) (store taken output : List ℕ) → sound Extended slots ≡ true → length store ≡ 32768
     → Midst slots count store taken output slots count store output 0 0
 midst slots count store taken output s w =
-    record { ok = s; full = w; in_input = omega arith; in_output = omega arith; size = refl; tail = refl; going = refl }
+    record { ok = s; full = w; in_input = omega arith; in_output = omega arith; size = refl; tail = refl; going = rw (sub-zero (length taken)) }
 
 module _ {slots₀ : List Slot} {count₀ : ℕ} {store₀ taken output₀ : List ℕ} {slots : List Slot} {count : ℕ} {store output : List ℕ} {used written : ℕ}
     (m : Midst slots₀ count₀ store₀ taken output₀ slots count store output used written) where
@@ -93,8 +133,9 @@ module _ {slots₀ : List Slot} {count₀ : ℕ} {store₀ taken output₀ : Lis
   left = length-drop used taken
 
   -- what the next round does
-  next_round : listed (has_room output₀) here ≡ listed_by (has_room output₀) here (record_at (drop used taken)) (listed (has_room output₀))
-  next_round = unrolled (has_room output₀) here
+  next_round : listed (length taken - used) (has_room output₀) here
+      ≡ listed_by (has_room output₀) here (record_at (drop used taken)) (listed (length taken - used - 1) (has_room output₀))
+  next_round = unrolled (length taken - used) (has_room output₀) here (omega (arith, left))
 
   text_size : length (take written output) ≡ written
   text_size = length-take-le written output (omega (arith, m.in_output, m.size))
@@ -102,11 +143,11 @@ module _ {slots₀ : List Slot} {count₀ : ℕ} {store₀ taken output₀ : Lis
   abbrev Ends : Why → Type 0
   Ends w =
       listing_after (record { listing = beginning slots count; why = w; used = used; written = written }) store output
-      ≡ handed_back (beginning slots₀ count₀) store₀ taken output₀ (value (listed (has_room output₀) (begun (beginning slots₀ count₀) store₀ taken)))
+      ≡ handed_back (beginning slots₀ count₀) store₀ taken output₀ (value (listed (length taken) (has_room output₀) (begun (beginning slots₀ count₀) store₀ taken)))
 
   -- it stops
   stops : (w : Why) (why : Reason) → meaning w ≡ value why
-      → listed_by (has_room output₀) here (record_at (drop used taken)) (listed (has_room output₀)) ≡ reached why here → Ends w
+      → listed_by (has_room output₀) here (record_at (drop used taken)) (listed (length taken - used - 1) (has_room output₀)) ≡ reached why here → Ends w
   stops w why e q =
       let used-is : length taken - length (drop used taken) ≡ used = omega (arith, left, m.in_input) in
       let output_is : take written output ++ drop (length (take written output)) output₀ ≡ output =
@@ -124,7 +165,7 @@ module _ {slots₀ : List Slot} {count₀ : ℕ} {store₀ taken output₀ : Lis
   stops_damaged e = stops why.Damaged damage refl (rw (← e))
 
   module _ (bus size : ℕ) (image : List ℕ) (e : whole bus image size ≡ record_at (drop used taken)) where
-    pub fits : (size ≡ 4 + length image) × (size ≤ length (drop used taken)) × (bus ≤ 1)
+    pub fits : (4 ≤ size) × (size ≤ length (drop used taken)) × (bus ≤ 1)
     unfolding Sized
     fits = sized (drop used taken) bus image size (sym e)
 
@@ -135,11 +176,15 @@ module _ {slots₀ : List Slot} {count₀ : ℕ} {store₀ taken output₀ : Lis
 
     -- its line has room
     this : 96 ≤ length output - written
-        → listed_by (has_room output₀) here (record_at (drop used taken)) (listed (has_room output₀))
-        ≡ listed (has_room output₀) (listed_one here (call bus image))
+        → listed_by (has_room output₀) here (record_at (drop used taken)) (listed (length taken - used - 1) (has_room output₀))
+        ≡ listed (length taken - used - 1) (has_room output₀) (listed_one here bus image size)
     this h =
         let n : length (take written output) + 96 ≤ length output₀ = omega (arith, text_size, m.size, m.in_output, h) in
         rw (← e, le-leb (length (take written output) + 96) (length output₀) n)
+
+    rest-left : length (listed_one here bus image size).rest ≡ length taken - (used + size)
+    unfolding listed_one
+    rest-left = omega (arith, length-drop size (drop used taken), left)
 
     further : (r n : ℕ) → r ≡ written + n → drop r output ≡ drop r output₀
     further r n er = rw (er, ← drop-drop n written output, m.tail) (drop-drop n written output₀)
@@ -152,9 +197,8 @@ module _ {slots₀ : List Slot} {count₀ : ℕ} {store₀ taken output₀ : Lis
     goes_on h ordinal eo t last tell r final add =
         let k = kept slots store bus image m.ok m.full in
         let short = room_for_line t.line tell.range in
-        let rest_is : drop (used + size) taken ≡ drop (4 + length image) (drop used taken) =
-        sym (drop-drop size used taken) ∙ ap (λ (n : ℕ). drop n (drop used taken)) fits.0 in
-        let text_is : take r final ≡ take written output ++ line_for (next count) bus (judge Extended image) (heard (extended_bank slots) store bus image).answer =
+        let rest_is : drop (used + size) taken ≡ drop size (drop used taken) = sym (drop-drop size used taken) in
+        let text_is : take r final ≡ take written output ++ line_for (next count) bus (judge Extended image) (heard (extended_station slots) store bus image).answer =
         add.head ∙ ap (λ (x : List ℕ). take written output ++ x) (rw eo at tell.text) in
         record {
           ok = rw tell.slots' k.slots;
@@ -163,14 +207,27 @@ module _ {slots₀ : List Slot} {count₀ : ℕ} {store₀ taken output₀ : Lis
           in_output = omega (arith, add.place, short, h, m.size);
           size = add.size ∙ m.size;
           tail = add.tail ∙ further r (length (line_text t.line)) add.place;
-          going = m.going ∙ next_round ∙ this h
-              ∙ ap (listed (has_room output₀)) (λ i. record { slots = sym tell.slots' i; store = sym tell.store' i; count = sym eo i; rest = sym rest_is i; text = sym text_is i });
+          going = m.going ∙ next_round ∙ this h ∙ enough _ _ _ _ (omega (arith, rest-left, fits.0)) (omega (arith, rest-left))
+              ∙ ap (listed (length taken - (used + size)) (has_room output₀)) (λ i. record { slots = sym tell.slots' i; store = sym tell.store' i; count = sym eo i; rest = sym rest_is i; text = sym text_is i });
         }
 
 -- ---- what the code reads
+
+-- what stands at the head of what is left
+pub seen : (taken : List ℕ) (used : ℕ) (entry x : Entry) → records.meaning entry (take (length taken - used) (drop used taken)) ≡ record_at (take (length taken - used) (drop used taken))
+    → entry ≡ x → records.meaning x (drop used taken) ≡ record_at (drop used taken)
+seen taken used entry x e ex =
+    ap (λ (y : Entry). records.meaning y (drop used taken)) (sym ex)
+    ∙ subst (λ (l : List ℕ). records.meaning entry l ≡ record_at l) (rest_is taken used) e
+
+-- the image
+image_is : (taken : List ℕ) (used size : ℕ) → take (used + size - (used + 4)) (drop (used + 4) taken) ≡ image_in size (drop used taken)
+image_is taken used size =
+    let n : used + size - (used + 4) ≡ size - 4 = omega arith in
+    rw (n, drop-drop 4 used taken)
 
 pub told_of : (taken : List ℕ) (used size : ℕ) {slots : List Slot} {store : List ℕ} {ordinal bus : ℕ} {r : Told} {last : List ℕ}
     → Tells slots store ordinal bus (take (used + size - (used + 4)) (drop (used + 4) taken)) r last
     → Tells slots store ordinal bus (image_in size (drop used taken)) r last
 told_of taken used size {slots} {store} {ordinal} {bus} {r} {last} t =
-    subst (λ (image : List ℕ). Tells slots store ordinal bus image r last) (image_read taken used size) t
+    subst (λ (image : List ℕ). Tells slots store ordinal bus image r last) (image_is taken used size) t

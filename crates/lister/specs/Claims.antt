@@ -1,26 +1,26 @@
 -- What is proved of listings, and document 01's listing program as a whole. The proofs stand in proofs/Soundness.antt (the first claim),
 -- proofs/InParts.antt and proofs/Answers.antt (the last).
-use Rattle.std.specs.Prelude.{◌≡◌, ℕ, Bool, true, ◌≢◌, List, [], ◌∷◌, ◌++◌, length, take, drop}
+use Rattle.std.specs.Prelude.{◌≡◌, ℕ, Bool, true, false, ◌≢◌, List, [], ◌∷◌, ◌++◌, length, take, drop}
 use Rattle.format.specs.Refusals.{Result, value, refused}
 use Rattle.format.specs.Outputs.{answer, output_after}
-use Rattle.station.specs.Stations.{sound_bank, full_size}
+use Rattle.station.specs.Stations.{sound_station, full_size}
 use Rattle.trace.specs.Records.{whole, record_at}
 use Rattle.trace.specs.Lines.{header_line}
 use Rattle.lister.specs.declared.Listing.{Listing}
 use Rattle.lister.specs.declared.Why.{Why}
-use Rattle.lister.specs.Listing.{new_listing, extended_bank, Stand, Reached, listed, begun, AfterListing, listing, last_lines, ending, meaning}
+use Rattle.lister.specs.Listing.{new_listing, extended_station, Stand, Reached, listed, begun, AfterListing, listing, last_lines, ending, meaning}
 
 -- ---- the program
 
 abbrev pub sound_listing : Listing → Bool
-sound_listing l = sound_bank (extended_bank l.slots)
+sound_listing l = sound_station (extended_station l.slots)
 
 abbrev pub listing_at : Stand → Listing
 listing_at s = record { slots = s.slots; count = s.count }
 
 -- all records of what is left, whatever room their lines take
 abbrev pub everything : Stand → Reached
-everything s = listed (λ n. true) s
+everything s = listed (length s.rest) (λ n. true) s
 
 -- "It prints the header, one line a record, and the count", and of a damaged record "its number and "stopped""
 abbrev pub printed : Stand → List ℕ

@@ -1,19 +1,19 @@
 -- Document 01, the listing program, last paragraph of "Examples to hold against the rules": "It opens each new key as first seen, up to 16.
 -- It prints the header, one line a record, and the count." What a part of the input, as it arrives, adds to the listing.
-use Rattle.std.specs.Prelude.{ℕ, ◌+◌, ◌-◌, ◌%◌, Bool, true, false, cond, List, [], ◌∷◌, ◌++◌, length, drop, replicate, nat_le}
+use Rattle.std.specs.Prelude.{ℕ, zero, suc, ◌+◌, ◌-◌, ◌%◌, Bool, true, false, cond, List, [], ◌∷◌, ◌++◌, length, drop, replicate, nat_le}
 use Rattle.format.specs.declared.Format.TheVariants.{Extended}
 use Rattle.format.specs.declared.Refusal.TheVariants.{State, Store}
 use Rattle.format.specs.Refusals.{Result, value, refused, check, guarded, number}
-use Rattle.frame.specs.Calls.{Call}
 use Rattle.frame.specs.Judge.{Frame, Judged, judge}
 use Rattle.format.specs.Outputs.{fitting, over}
 use Rattle.stream.specs.Answers.{Reply}
 use Rattle.slot.specs.declared.Slot.{Slot}
 use Rattle.slot.specs.Slots.{closed_slot}
-use Rattle.station.specs.Stations.{Bank, sound_bank, full_size}
+use Rattle.station.specs.declared.Station.{Station}
+use Rattle.station.specs.Stations.{sound_station, full_size}
 use Rattle.station.specs.Receive.{After, key_of, receive}
 use Rattle.station.specs.Open.{opening}
-use Rattle.trace.specs.Records.{Found, whole, damaged, cut, none, record_at, TraceEnd, at_end, inside_record, at_damaged, Records, records_in}
+use Rattle.trace.specs.Records.{Found, whole, damaged, cut, none, record_at}
 use Rattle.trace.specs.Lines.{frame_line, refused_line, stopped_line, count_line}
 use Rattle.lister.specs.declared.Listing.{Listing}
 use Rattle.lister.specs.declared.Listed.{Listed}
@@ -25,19 +25,19 @@ abbrev pub new_listing : Listing
 new_listing = record { slots = replicate 16 closed_slot; count = 0 }
 
 -- "The listing program reads extended frames"
-abbrev pub extended_bank : List Slot → Bank
-extended_bank slots = record { format = Extended; slots = slots }
+abbrev pub extended_station : List Slot → Station
+extended_station slots = record { format = Extended; slots = slots }
 
 -- ---- one record
 
 -- the station with the key of the frame open: opened if it is new and a slot is closed; an image refused by 1 to 5 or 25 opens
 -- nothing
-abbrev pub opened_for : Bank → (bus : ℕ) → Result Judged → Bank
-opened_for bank bus (refused n) = bank
-opened_for bank bus (value judged) = (opening bank (key_of bus judged.frame)).bank
+abbrev pub opened_for : Station → (bus : ℕ) → Result Judged → Station
+opened_for station bus (refused n) = station
+opened_for station bus (value judged) = (opening station (key_of bus judged.frame)).station
 
-unfoldable pub heard : Bank → List ℕ → (bus : ℕ) → List ℕ → After
-heard bank store bus image = receive (opened_for bank bus (judge Extended image)) store bus image
+unfoldable pub heard : Station → List ℕ → (bus : ℕ) → List ℕ → After
+heard station store bus image = receive (opened_for station bus (judge Extended image)) store bus image
 
 -- the line of record r
 abbrev pub line_for : (r bus : ℕ) → Result Judged → Result Reply → List ℕ
@@ -60,17 +60,16 @@ pub record Stand : Type 0 where
   pub rest : List ℕ
   pub text : List ℕ
 
--- one record more: it takes its image and four bytes of what is left
-unfoldable pub listed_one : Stand → Call → Stand
-listed_one s call =
+unfoldable pub listed_one : Stand → (bus : ℕ) → List ℕ → (size : ℕ) → Stand
+listed_one s bus image size =
     let r : ℕ = next s.count in
-    let given : After = heard (extended_bank s.slots) s.store call.bus call.image in
+    let given : After = heard (extended_station s.slots) s.store bus image in
     record {
-      slots = given.bank.slots;
+      slots = given.station.slots;
       store = given.store;
       count = r;
-      rest = drop (4 + length call.image) s.rest;
-      text = s.text ++ line_for r call.bus (judge Extended call.image) given.answer;
+      rest = drop size s.rest;
+      text = s.text ++ line_for r bus (judge Extended image) given.answer;
     }
 
 -- why no further record was listed: what is left of the input is no whole record; the output might not have room for the next line;
@@ -87,20 +86,18 @@ pub record Reached : Type 0 where
 abbrev pub reached : Reason → Stand → Reached
 reached why s = record { why = why; stand = s }
 
-abbrev pub reason_at : TraceEnd → Reason
-reason_at at_end = input
-reason_at inside_record = input
-reason_at at_damaged = damage
+-- a whole record is listed, and then what follows it, where there is room for a line after so many bytes of text
+abbrev pub listed_by : (space : ℕ → Bool) → Stand → Found → (Stand → Reached) → Reached
+listed_by space s none following = reached input s
+listed_by space s cut following = reached input s
+listed_by space s damaged following = reached damage s
+listed_by space s (whole bus image size) following =
+    cond (space (length s.text)) (following (listed_one s bus image size)) (reached room s)
 
--- one record after the other, as long as there is room for a line after so many bytes of text
-unfoldable pub listed_all : (space : ℕ → Bool) → Stand → List Call → (last : Reason) → Reached
-listed_all space s [] last = reached last s
-listed_all space s (call ∷ calls) last =
-    cond (space (length s.text)) (listed_all space (listed_one s call) calls last) (reached room s)
-
--- the records of what is left
-unfoldable pub listed : (space : ℕ → Bool) → Stand → Reached
-listed space s = let trace : Records = records_in s.rest in listed_all space s trace.calls (reason_at trace.ending)
+-- one after the other. Each takes some of the input, so that as many rounds as it has bytes are enough
+unfoldable pub listed : (rounds : ℕ) (space : ℕ → Bool) → Stand → Reached
+listed zero space s = reached input s
+listed (suc rounds) space s = listed_by space s (record_at s.rest) (listed rounds space)
 
 -- there is room for any line: `LINE_ROOM` of trace
 abbrev pub has_room : (output : List ℕ) → ℕ → Bool
@@ -139,8 +136,8 @@ begun l store taken = record { slots = l.slots; store = store; count = l.count; 
 unfoldable pub listing : Listing → (store taken output : List ℕ) → AfterListing
 listing l store taken output =
     handed_back l store taken output
-    (guarded (check State (sound_bank (extended_bank l.slots)) ∷ check Store (full_size store) ∷ [])
-    (listed (has_room output) (begun l store taken)))
+    (guarded (check State (sound_station (extended_station l.slots)) ∷ check Store (full_size store) ∷ [])
+    (listed (length taken) (has_room output) (begun l store taken)))
 
 -- what the code hands back, and the store and the output afterwards, say
 abbrev pub meaning : Why → Result Reason

@@ -10,7 +10,7 @@ use Rattle.slot.specs.declared.Slot.{Slot}
 use Rattle.station.specs.Parts.{frame_of}
 use Rattle.trace.specs.Lines.{line_text, line_in_range}
 use Rattle.lister.specs.declared.Told.{Told}
-use Rattle.lister.specs.Listing.{extended_bank, heard, line_for}
+use Rattle.lister.specs.Listing.{extended_station, heard, line_for}
 
 -- a head that an image of bytes is judged to have
 pub record Heads (head : Head) (image : List ℕ) : Type 0 where
@@ -22,9 +22,9 @@ pub record Heads (head : Head) (image : List ℕ) : Type 0 where
 -- a record of that ordinal, received and told
 pub record Tells (slots : List Slot) (store : List ℕ) (ordinal bus : ℕ) (image : List ℕ) (r : Told) (last : List ℕ) : Type 0 where
   pub below : r.at < 16
-  pub slots' : slice_set slots r.at r.slot ≡ (heard (extended_bank slots) store bus image).bank.slots
-  pub store' : last ≡ (heard (extended_bank slots) store bus image).store
-  pub text : line_text r.line ≡ line_for ordinal bus (judge Extended image) (heard (extended_bank slots) store bus image).answer
+  pub slots' : slice_set slots r.at r.slot ≡ (heard (extended_station slots) store bus image).station.slots
+  pub store' : last ≡ (heard (extended_station slots) store bus image).store
+  pub text : line_text r.line ≡ line_for ordinal bus (judge Extended image) (heard (extended_station slots) store bus image).answer
   pub range : line_in_range r.line ≡ true
 
 -- a text written at a place of the output, and where it ends

@@ -1,19 +1,19 @@
 // A listing: the records of a part of a trace, received by a station that opens each new key, and
 // their lines.
-ghost use Rattle.std.specs.Prelude.{◌≡◌, ◌+◌, ◌-◌, ◌<◌, ◌≤◌, true, length};
+ghost use Rattle.std.specs.Prelude.{◌≡◌, ◌+◌, ◌-◌, ◌<◌, ◌≤◌, true, ◌++◌, length};
 ghost use Rattle.format.specs.declared.Format.TheVariants.{Extended};
 ghost use Rattle.format.specs.Refusals.{value};
 ghost use Rattle.format.specs.Refusals.{meaning as outcome·meaning};
 ghost use Rattle.format.specs.Outputs.{answer};
 ghost use Rattle.format.specs.Outputs.{output_after as over·after};
-ghost use Rattle.slot.specs.Slots.{open_slot, slot_at};
+ghost use Rattle.frame.specs.Judge.{judge as judge·of};
+ghost use Rattle.slot.specs.Slots.{open_slot};
 ghost use Rattle.slot.specs.Sound.{sound};
 ghost use Rattle.station.specs.Receive.{key_of, after_turn};
 ghost use Rattle.station.specs.Parts.{frame_of, Steps};
-ghost use Rattle.lister.specs.Listing.{new_listing, listed, has_room, begun, handed_back, listing, listing_after, stops_at, end_text, ending};
+ghost use Rattle.lister.specs.Listing.{new_listing, extended_station, heard, listed, has_room, begun, handed_back, listing, listing_after, stops_at, end_text, ending};
 ghost use Rattle.trace.specs.Records.{record_at};
 ghost use Rattle.trace.specs.Lines.{line_text, line_in_range};
-ghost use Rattle.lister.specs.Hearing.{frame_unguarded, Hears};
 ghost use Rattle.lister.specs.Parts.{Heads, Tells, Adds};
 ghost use Rattle.lister.specs.Claims.{ListingStaysSound, InParts, Printed, OneWhy};
 ghost use Rattle.lister.specs.Examples.{ListingExamples, ListingBounds};
@@ -54,14 +54,6 @@ pub struct Listed {
     pub why: Why,
     pub used: usize,
     pub written: usize,
-}
-
-// What receiving one image did: a slot, what it becomes and the answer; and what the image was
-// judged to be.
-#[derive(Drop)]
-pub struct JudgedTurn {
-    pub turn: Turn,
-    pub verdict: Verdict,
 }
 
 // One record told: a slot, what it becomes, and the record's line.
@@ -111,11 +103,11 @@ fn step_at(
     }
 }
 
-// A frame is received, its key opened before if it is new and a slot is closed.
-fn hear_frame(slots: [Slot; 16], store: &mut [u8], bus: u8, head: Head, image: &[u8]) -> Turn
-    requires { (length store.old ≡ 32768) × Heads head image.now }
+// A frame is received in sound slots, its key opened before if it is new and a slot is closed.
+fn hear(slots: [Slot; 16], store: &mut [u8], bus: u8, head: Head, image: &[u8]) -> Turn
+    requires { (sound Extended slots ≡ true) × (length store.old ≡ 32768) × (bus ≤ 1) × Heads head image.now }
     ensures at_bound { result.at < 16 }
-    ensures store_after { after_turn Extended slots result store.new ≡ frame_unguarded slots store.old (key_of bus (frame_of head image.now)) (frame_of head image.now) }
+    ensures store_after { after_turn Extended slots result store.new ≡ heard (extended_station slots) store.old bus image.now }
 {
     let fields = head.fields;
     let key = Key {
@@ -142,58 +134,24 @@ fn hear_frame(slots: [Slot; 16], store: &mut [u8], bus: u8, head: Head, image: &
     }
 }
 
-// The first slot becomes what it was.
-fn unheard(slots: [Slot; 16], answer: Answer) -> Turn
-    ensures { result ≡ record { at = 0; slot = slot_at slots 0; answer = answer } }
-{
-    let first = slots[0];
-    Turn {
-        at: 0,
-        slot: first,
-        answer: answer,
-    }
-}
-
-// An image is received as the listing does it, its key opened before if it is new and a slot is
-// closed. Refuses with STORE. Whether the slots are sound and the bus is 0 or 1 is not tested here
-// for each image.
-pub fn hear(slots: [Slot; 16], store: &mut [u8], bus: u8, image: &[u8]) -> JudgedTurn
-    ensures { Hears slots store.old bus image.now result store.new }
-{
-    let verdict = judge(Format::Extended, image);
-    if store.len() != Store::SIZE {
-        let turn = unheard(slots, Answer::Refused(Refusal::Store));
-        return JudgedTurn { turn, verdict };
-    }
-    match verdict {
-        Verdict::Refused(name) => {
-            let turn = unheard(slots, Answer::Refused(name));
-            JudgedTurn { turn, verdict }
-        }
-        Verdict::Sound(head) => {
-            let turn = hear_frame(slots, store, bus, head, image);
-            JudgedTurn { turn, verdict }
-        }
-    }
-}
-
 // A record of that ordinal is received and told.
 fn tell(slots: [Slot; 16], store: &mut [u8], ordinal: u64, bus: u8, image: &[u8]) -> Told
     requires { (sound Extended slots ≡ true) × (length store.old ≡ 32768) × (bus ≤ 1) }
     ensures { Tells slots store.old ordinal bus image.now result store.new }
 {
-    let heard = hear(slots, store, bus, image);
-    let verdict = heard.verdict;
-    let turn = heard.turn;
-    let slot = turn.slot;
-    match verdict {
-        Verdict::Refused(name) => Told {
-            at: turn.at,
-            slot: slot,
-            line: Line::Refused { ordinal, bus, name },
-        },
+    match judge(Format::Extended, image) {
+        Verdict::Refused(name) => {
+            let first = slots[0];
+            Told {
+                at: 0,
+                slot: first,
+                line: Line::Refused { ordinal, bus, name },
+            }
+        }
         Verdict::Sound(head) => {
-            let answer = turn.answer;
+            let t = hear(slots, store, bus, head, image);
+            let slot = t.slot;
+            let answer = t.answer;
             let fields = head.fields;
             let flag = head.flag;
             let start = head.start;
@@ -208,7 +166,7 @@ fn tell(slots: [Slot; 16], store: &mut [u8], ordinal: u64, bus: u8, image: &[u8]
                 answer,
             };
             Told {
-                at: turn.at,
+                at: t.at,
                 slot: slot,
                 line: line,
             }
@@ -268,7 +226,7 @@ fn ended(slots: [Slot; 16], count: u64, why: Why, used: usize, written: usize) -
 // Lists what stands in the input, in sound slots and with a full-size store.
 fn list_all(listing: Listing, store: &mut [u8], input: &[u8], output: &mut [u8]) -> Listed
     requires { (sound Extended listing.slots ≡ true) × (length store.old ≡ 32768) }
-    ensures { listing_after result store.new output.new ≡ handed_back listing store.old input.now output.old (value (listed (has_room output.old) (begun listing store.old input.now))) }
+    ensures { listing_after result store.new output.new ≡ handed_back listing store.old input.now output.old (value (listed (length input.now) (has_room output.old) (begun listing store.old input.now))) }
 {
     let mut slots = listing.slots;
     let mut count = listing.count;

@@ -5,29 +5,21 @@ ghost use Rattle.pipes.specs.Holding.{ReadOn, left, moved};
 
 use libc::{EPIPE, STDIN_FILENO, STDOUT_FILENO};
 
-// Reads once from a file that is open, after the first held bytes of the input, and answers how many
-// are held then: no more than before at the file's end. A read that fails counts as the end, and
-// standard error says why, by the name given.
-pub fn read_from(fd: i32, name: &[u8], input: &mut [u8], held: usize) -> usize
+// Reads once, after the first held bytes of the input, and answers how many are held then: no more
+// than before at the input's end. A read that fails counts as the end, and standard error says why.
+pub fn read_on(input: &mut [u8], held: usize) -> usize
     ensures { ReadOn input.old held result input.new }
 {
     if held > input.len() {
         return held;
     }
-    let got = libc::read(fd, &mut input[held..]);
+    let got = libc::read(STDIN_FILENO, &mut input[held..]);
     if got < 0 {
-        os::fail(name);
+        os::fail(b"standard input");
         return held;
     }
     let n = io::count(got, &input[held..]);
     held + n
-}
-
-// The same, from standard input.
-pub fn read_on(input: &mut [u8], held: usize) -> usize
-    ensures { ReadOn input.old held result input.new }
-{
-    read_from(STDIN_FILENO, b"standard input", input, held)
 }
 
 // Moves what stands from a place to the end of the first held bytes to the front, and answers how

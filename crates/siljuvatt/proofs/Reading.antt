@@ -9,7 +9,7 @@ use Rattle.format.specs.declared.Refusal.TheVariants.{State}
 use Rattle.format.specs.Refusals.{Result, value, refused, number}
 use Rattle.station.specs.Read.{reading, length_of}
 use Rattle.station.proofs.Handing.{has_length}
-use Rattle.station_bytes.specs.States.{bank_in, is_state}
+use Rattle.station_bytes.specs.States.{station_in, is_state}
 use Rattle.station_bytes.specs.Calls.{read_in}
 use Rattle.siljuvatt.specs.Calls.{start_after}
 use Rattle.siljuvatt.specs.Claims.{ReadsThere}
@@ -19,8 +19,8 @@ pub below_16 : (state store : List ℕ) (i n : ℕ) → value n ≡ length_of (r
 unfolding read_in
 below_16 state store i n = go (is_state state)
   where
-    go : (b : Bool) → value n ≡ length_of (cond b (reading (bank_in state) store i) (refused (number State))) → i < 16
-    go true e = (has_length (bank_in state) store i n e).below
+    go : (b : Bool) → value n ≡ length_of (cond b (reading (station_in state) store i) (refused (number State))) → i < 16
+    go true e = (has_length (station_in state) store i n e).below
     go false e = let z : ◌≡◌ {A = ℕ} 0 1 = cc in absurd (omega arith)
 
 pub start_set : (r : Result (List ℕ)) (slot start n : ℕ) → value n ≡ length_of r → 2048 * slot ≡ start_after r slot start
@@ -39,9 +39,9 @@ reads_there state store slot start bytes = go (is_state state)
     packet-of : {a b : List ℕ} → ◌≡◌ {A = Result (List ℕ)} (value a) (value b) → a ≡ b
     packet-of e = cc
 
-    go : (b : Bool) → cond b (reading (bank_in state) store slot) (refused (number State)) ≡ value bytes
-        → bytes ≡ take (length bytes) (drop (start_after (cond b (reading (bank_in state) store slot) (refused (number State))) slot start) store)
+    go : (b : Bool) → cond b (reading (station_in state) store slot) (refused (number State)) ≡ value bytes
+        → bytes ≡ take (length bytes) (drop (start_after (cond b (reading (station_in state) store slot) (refused (number State))) slot start) store)
     go true e =
-        let r = has_length (bank_in state) store slot (length bytes) (sym (ap length_of e)) in
+        let r = has_length (station_in state) store slot (length bytes) (sym (ap length_of e)) in
         sym (packet-of (r.part ∙ e)) ∙ ap (λ (x : Result (List ℕ)). take (length bytes) (drop (start_after x slot start) store)) (sym e)
     go false e = let z : ◌≡◌ {A = ℕ} 0 1 = cc in absurd (omega arith)

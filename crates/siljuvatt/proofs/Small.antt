@@ -37,14 +37,14 @@ use Rattle.stream.proofs.Cases.{while_idle, while_done, while_collecting}
 use Rattle.slot.specs.declared.Key.{Key}
 use Rattle.slot.specs.Slots.{closed_slot, open_slot, is_closed, has_key, place}
 use Rattle.slot.specs.Sound.{fits}
-use Rattle.station.specs.Stations.{Bank}
-use Rattle.station.specs.Receive.{After, judged_as, let_in, step_at, deliver, receive, entrance, tallied, station_receive}
+use Rattle.station.specs.declared.Station.{Station}
+use Rattle.station.specs.Receive.{After, judged_as, let_in, step_at, deliver, receive}
 use Rattle.station.specs.Open as handing
 use Rattle.station.specs.Read.{reading, length_of}
 use Rattle.station.proofs.Handing.{within_sixteen, has_length, open_below}
 use Rattle.station.proofs.Steps.{Carrying, judged_carries, keeps}
-use Rattle.station_bytes.specs.States.{bank_in, station_in, is_state}
-use Rattle.station_bytes.specs.Calls.{StateAfter, BytesAfter, renewed, receive_in, open_in, close_in, read_in, tally_in, answered}
+use Rattle.station_bytes.specs.States.{station_in, is_state}
+use Rattle.station_bytes.specs.Calls.{StateAfter, BytesAfter, renewed, receive_in, open_in, close_in, read_in}
 use Rattle.master.specs.declared.Kind.{Kind}
 use Rattle.master.specs.declared.Activity.{Activity}
 use Rattle.master.specs.declared.Activity.TheVariants as activity
@@ -170,24 +170,24 @@ Hands most h = UpTo most h.answer
 new : (state : List ℕ) (format : ℕ) → UpTo 0 (new_in state format).answer
 unfolding new_in renewed
 new state format =
-    either (Hands 0) (eqb (length state) 242) _ _
-    (either (Hands 0) (leb format 1) _ _ (either (Hands 0) (eqb (length state) 242) _ _ (omega arith) (a_refusal State)) (a_refusal Field))
+    either (Hands 0) (eqb (length state) 130) _ _
+    (either (Hands 0) (leb format 1) _ _ (either (Hands 0) (eqb (length state) 130) _ _ (omega arith) (a_refusal State)) (a_refusal Field))
     (a_refusal State)
 
 opens : (state : List ℕ) (key : Key) → UpTo 15 (open_in state key).answer
-unfolding open_in handing.station_open handing.opening
+unfolding open_in handing.opening
 opens state key =
     either (Hands 15) (is_state state) _ _
-    (by_checks (λ r. UpTo 15 (handing.changed_at (bank_in state) (open_slot key progress.Idle) r).answer) _ _
-    (λ p. omega (arith, within_sixteen (bank_in state).format (bank_in state).slots is_closed p.0 p.1.1.1.0)) a_refusal)
+    (by_checks (λ r. UpTo 15 (handing.changed_at (station_in state) (open_slot key progress.Idle) r).answer) _ _
+    (λ p. omega (arith, within_sixteen (station_in state).format (station_in state).slots is_closed p.0 p.1.1.1.0)) a_refusal)
     (a_refusal State)
 
 closes : (state : List ℕ) (slot : ℕ) → UpTo 15 (close_in state slot).answer
-unfolding close_in handing.station_close handing.closing
+unfolding close_in handing.closing
 closes state slot =
     either (Hands 15) (is_state state) _ _
-    (by_checks (λ r. UpTo 15 (handing.changed_at (bank_in state) closed_slot r).answer) _ _
-    (λ p. omega (arith, open_below (bank_in state).slots slot p.1.0)) a_refusal)
+    (by_checks (λ r. UpTo 15 (handing.changed_at (station_in state) closed_slot r).answer) _ _
+    (λ p. omega (arith, open_below (station_in state).slots slot p.1.0)) a_refusal)
     (a_refusal State)
 
 -- the answer of a step: a single has as many bytes as a stream that fits, and a longer packet has been measured
@@ -224,16 +224,16 @@ step_small format p area frame c =
 abbrev Receives : After → Type 0
 Receives r = Within (LengthUpTo 2048) r.answer
 
-deliver_small : (bank : Bank) (store : List ℕ) (key : Key) (frame : Frame) → Carrying bank.format frame
-    → Receives (deliver bank store key frame)
+deliver_small : (station : Station) (store : List ℕ) (key : Key) (frame : Frame) → Carrying station.format frame
+    → Receives (deliver station store key frame)
 unfolding deliver step_at
-deliver_small bank store key frame c =
-    either Receives (ltb (place (has_key key) bank.slots) 16) _ _ (step_small bank.format _ _ frame c) tt
+deliver_small station store key frame c =
+    either Receives (ltb (place (has_key key) station.slots) 16) _ _ (step_small station.format _ _ frame c) tt
 
-judged_small : (bank : Bank) (store : List ℕ) (bus : ℕ) (r : Result Judged)
-    → Within (λ j. Carrying bank.format j.frame) r → Receives (judged_as bank store bus r)
-judged_small bank store bus (refused n) h = h
-judged_small bank store bus (value judged) c = deliver_small bank store _ judged.frame c
+judged_small : (station : Station) (store : List ℕ) (bus : ℕ) (r : Result Judged)
+    → Within (λ j. Carrying station.format j.frame) r → Receives (judged_as station store bus r)
+judged_small station store bus (refused n) h = h
+judged_small station store bus (value judged) c = deliver_small station store _ judged.frame c
 
 judge_within : (format : Format) (image : List ℕ) → Within (λ j. Carrying format j.frame) (judge format image)
 unfolding all_true all_after
@@ -242,36 +242,29 @@ judge_within format image =
     (judged_carries format image)
     (λ n r. byte_within n (r a_byte refl))
 
-receive_small : (bank : Bank) (store : List ℕ) (bus : ℕ) (image : List ℕ) → Receives (receive bank store bus image)
+receive_small : (station : Station) (store : List ℕ) (bus : ℕ) (image : List ℕ) → Receives (receive station store bus image)
 unfolding receive
-receive_small bank store bus image =
-    judged_small bank store bus (let_in bank store bus image)
-    (then_within _ _ _ (then_within _ _ _ (judge_within bank.format image)))
+receive_small station store bus image =
+    judged_small station store bus (let_in station store bus image)
+    (then_within _ _ _ (then_within _ _ _ (judge_within station.format image)))
 
 receives : (state store : List ℕ) (bus : ℕ) (image : List ℕ) → Within (LengthUpTo 2048) (receive_in state store bus image).answer
-unfolding receive_in station_receive
+unfolding receive_in
 receives state store bus image =
     either (λ (r : BytesAfter). Within (LengthUpTo 2048) r.answer) (is_state state) _ _
-    (by_checks (λ r. Within (LengthUpTo 2048) (tallied (station_in state) store r).answer) (entrance (station_in state) store bus) _
-    (λ p. receive_small (bank_in state) store bus image) a_refusal)
+    (receive_small (station_in state) store bus image)
     (a_refusal State)
 
-read_small : (bank : Bank) (store : List ℕ) (slot : ℕ) → Within (λ l. length l ≤ 2048) (reading bank store slot)
+read_small : (station : Station) (store : List ℕ) (slot : ℕ) → Within (λ l. length l ≤ 2048) (reading station store slot)
 unfolding reading
-read_small bank store slot =
-    within (λ (l : List ℕ). length l ≤ 2048) _ _ (λ p. (has_length bank store slot _ (ap length_of (sym (all_passed _ _ p)))).small)
+read_small station store slot =
+    within (λ (l : List ℕ). length l ≤ 2048) _ _ (λ p. (has_length station store slot _ (ap length_of (sym (all_passed _ _ p)))).small)
 
 reads : (state store : List ℕ) (slot : ℕ) → UpTo 2048 (length_of (read_in state store slot))
 unfolding read_in
 reads state store slot =
     lengths 2048 (read_in state store slot)
-    (either (Within (λ (l : List ℕ). length l ≤ 2048)) (is_state state) _ _ (read_small (bank_in state) store slot) (a_refusal State))
-
-tallies : (state : List ℕ) (i : ℕ) → UpTo 0 (answered (tally_in state i))
-unfolding tally_in
-tallies state i =
-    either (λ (r : Result ℕ). UpTo 0 (answered r)) (is_state state) _ _ (by_checks (λ r. UpTo 0 (answered r)) _ _ (λ p. omega arith) a_refusal)
-    (a_refusal State)
+    (either (Within (λ (l : List ℕ). length l ≤ 2048)) (is_state state) _ _ (read_small (station_in state) store slot) (a_refusal State))
 
 -- ---- a master
 
@@ -365,7 +358,6 @@ small =
       closes = closes;
       receives = receives;
       reads = reads;
-      tallies = tallies;
       new_master_lem = new_master_lem;
       starts = starts;
       replies = replies;

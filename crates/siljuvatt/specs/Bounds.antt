@@ -44,7 +44,6 @@ table =
     ∷ replies (value filtered) 0x00060000
     ∷ replies (refused 8) 0x80000008
     ∷ replies (refused 25) 0x80000019
-    ∷ replies (refused 26) 0x8000001A
     -- kinds 7, 8 and 9
     ∷ tells (value (send 0)) 0x00070000
     ∷ tells (value (send 1)) 0x00070001
@@ -57,8 +56,8 @@ table =
     ∷ resets (value 2) 0x04000000
     ∷ resets (value 3) 0x06000000
     ∷ resets (refused 21) 0x80000015
-    -- 0.3.0
-    ∷ versions 0x00000300
+    -- 0.2.0
+    ∷ versions 0x00000200
     -- 0 extended: priority, source, group, destination, function; 1 standard: priority, address, side; else none
     ∷ reads 0 (1 ∷ 5 ∷ 2 ∷ 6 ∷ 3 ∷ []) (fields.Extended 1 5 2 6 3) true
     ∷ reads 0 (3 ∷ 63 ∷ 3 ∷ 63 ∷ 32 ∷ []) (fields.Extended 3 63 3 63 32) false
@@ -75,11 +74,11 @@ table =
     ∷ counts 1 1793 (refused 10)
     ∷ counts 2 9999 (refused 9)
     -- STATE before FIELD
-    ∷ news 242 0 (value 0)
-    ∷ news 242 1 (value 0)
-    ∷ news 242 2 (refused 9)
-    ∷ news 241 2 (refused 21)
-    ∷ news 243 1 (refused 21)
+    ∷ news 130 0 (value 0)
+    ∷ news 130 1 (value 0)
+    ∷ news 130 2 (refused 9)
+    ∷ news 129 2 (refused 21)
+    ∷ news 131 1 (refused 21)
     -- slot i owns the 2,048 bytes from 2,048 × i
     ∷ begins (value (1 ∷ [])) 0 0
     ∷ begins (value (1 ∷ [])) 1 2048

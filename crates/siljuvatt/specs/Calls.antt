@@ -17,7 +17,7 @@ unchanged state answer = record { answer = answer; state = state }
 -- STATE: another number of bytes. FIELD: a format that is neither
 unfoldable pub new_in : List ℕ → (format : ℕ) → StateAfter
 new_in state format =
-    cond (eqb (length state) 242) (cond (leb format 1) (renewed state (format_in format)) (unchanged state (refused (number Field))))
+    cond (eqb (length state) 130) (cond (leb format 1) (renewed state (format_in format)) (unchanged state (refused (number Field))))
     (unchanged state (refused (number State)))
 
 -- "Reading a done slot returns that part of the store itself, the head of the area": where in the store it begins; a refusal leaves the

@@ -8,7 +8,7 @@ use Rattle.packet.specs.Send as sending
 use Rattle.stream.specs.Answers.{Reply, packet, kept, filtered}
 use Rattle.slot.specs.declared.Key.{Key}
 use Rattle.station.specs.Read.{length_of}
-use Rattle.station_bytes.specs.Calls.{receive_in, open_in, close_in, read_in, tally_in, answered}
+use Rattle.station_bytes.specs.Calls.{receive_in, open_in, close_in, read_in}
 use Rattle.master.specs.Exchanges.{Told, send, done, gave_up}
 use Rattle.master_bytes.specs.Calls as masters
 use Rattle.watch_bytes.specs.States as watches
@@ -54,7 +54,6 @@ pub record Small : Type 0 where
   pub closes : (state : List ℕ) (slot : ℕ) → UpTo 15 (close_in state slot).answer
   pub receives : (state store : List ℕ) (bus : ℕ) (image : List ℕ) → Within (LengthUpTo 2048) (receive_in state store bus image).answer
   pub reads : (state store : List ℕ) (slot : ℕ) → UpTo 2048 (length_of (read_in state store slot))
-  pub tallies : (state : List ℕ) (i : ℕ) → UpTo 0 (answered (tally_in state i))
   -- a master: 0 for a new one, buses 0 and 1
   pub new_master_lem : (state : List ℕ) → UpTo 0 (masters.renew state).answer
   pub starts : (state : List ℕ) (kind node : ℕ) → Within (BusUpTo 1) (masters.starting state kind node).answer

@@ -8,7 +8,7 @@ ghost use Rattle.format.specs.Outputs.{answer, output_after};
 ghost use Rattle.packet.specs.Send as sending;
 ghost use Rattle.filter.specs.Filters.{accepts, either_accepts, row_pair};
 ghost use Rattle.station.specs.Read.{length_of};
-ghost use Rattle.station_bytes.specs.Calls.{receive_in, open_in, close_in, read_in, tally_in, answered, value_after};
+ghost use Rattle.station_bytes.specs.Calls.{receive_in, open_in, close_in, read_in};
 ghost use Rattle.master_bytes.specs.Calls as masters;
 ghost use Rattle.watch_bytes.specs.States as watches;
 ghost use Rattle.siljuvatt.specs.Answers.{version, refused_word, broke_word, outcome_word, reply_word, told_word, reset_word};
@@ -155,7 +155,7 @@ fn format_in(state: &[u8]) -> u8
 pub extern "C" fn siljuvatt_version() -> u32
     ensures { result ≡ version }
 {
-    768
+    512
 }
 
 // The number of pieces of a packet of that size, or: FIELD, SIZE.
@@ -223,8 +223,8 @@ pub extern "C" fn siljuvatt_close(state: &mut [u8], slot: usize) -> u32
     outcome_word(station_bytes::close(state, slot))
 }
 
-// Receives an image on a bus: packet and its length, kept, filtered, or: STATE, STORE, FIELD, TALLY, LENGTH,
-// FORM, REMOTE, COUNT, SURPLUS, PIECE, ORPHAN, STEP, LONG.
+// Receives an image on a bus: packet and its length, kept, filtered, or: STATE, STORE, FIELD, LENGTH, FORM,
+// REMOTE, COUNT, SURPLUS, PIECE, ORPHAN, STEP, LONG.
 #[unsafe(no_mangle)]
 pub extern "C" fn siljuvatt_receive(
     state: &mut [u8],
@@ -252,15 +252,6 @@ pub extern "C" fn siljuvatt_read(state: &[u8], store: &[u8], slot: usize, start:
         }
         Outcome::Refused(name) => refused(name),
     }
-}
-
-// A tally of the station, by its place in the order of the report, and 0, or: STATE, INDEX.
-#[unsafe(no_mangle)]
-pub extern "C" fn siljuvatt_tally(state: &[u8], index: usize, value: &mut u64) -> u32
-    ensures value { result ≡ outcome_word (answered (tally_in state.now index)) }
-    ensures value_after { value.new ≡ value_after (tally_in state.now index) value.old }
-{
-    outcome_word(station_bytes::tally(state, index, value))
 }
 
 // Whether a filter of that code and mask accepts ID.28 to ID.13.

@@ -7,11 +7,7 @@ mod Pieces
 pub mod RoundTrip
 pub mod Soundness
 pub mod Turning
-pub mod Tallying
-pub mod Answering
-pub mod EqualTallies
 pub mod Handing
 pub mod Refusals
-pub mod TalliedRuns
 pub mod OnCalls
 mod Bounds

@@ -2,25 +2,24 @@
 use Prim.Native.Nat.{ℕ}
 use mathlib.Core.Path.{◌≡◌, refl, sym, ap, ◌∙◌}
 use mathlib.Core.List.{List, [], ◌∷◌}
-use Rattle.frame.specs.Calls.{Call}
 use Rattle.station.specs.declared.Station.{Station}
-use Rattle.station.specs.Receive.{StationReceived, after}
-use Rattle.station.specs.Run.{StationRan, run_on, station_run}
+use Rattle.station.specs.Receive.{After, after}
+use Rattle.station.specs.Run.{Call, Ran, run_on, run}
 use Rattle.station.specs.Demands.{Given, Chained, ended, AsRun, Demand3OnCalls, RoundTripOnCalls}
-use Rattle.station.proofs.TalliedRuns.{demand3_of_station, round_trip_of_station}
+use Rattle.station.proofs.Isolation.{demand3_of}
+use Rattle.station.proofs.RoundTrip.{round_trip_of}
 
 chained : (calls : List Call) (station : Station) (store : List ℕ) (givens : List Given) → Chained station store calls givens
-    → ended station store givens ≡ station_run station store calls
+    → ended station store givens ≡ run station store calls
 unfolding Chained ended run_on
 chained [] station store [] c = refl
 chained [] station store (given ∷ givens) c = absurd c
 chained (call ∷ calls) station store [] c = absurd c
 chained (call ∷ calls) station store (given ∷ givens) c =
     let rest = chained calls given.received.station given.store givens c.1 in
-    let on : StationRan → StationReceived → StationRan =
-    λ ran first. record { answers = first.answer ∷ ran.answers; station = ran.station; store = ran.store } in
-    ap (λ (ran : StationRan). on ran (after given.received given.store)) rest
-    ∙ ap (λ (first : StationReceived). on (station_run first.station first.store calls) first) c.0
+    let on : Ran → After → Ran = λ ran first. record { answers = first.answer ∷ ran.answers; station = ran.station; store = ran.store } in
+    ap (λ (ran : Ran). on ran (after given.received given.store)) rest
+    ∙ ap (λ (first : After). on (run first.station first.store calls) first) c.0
 
 pub as_run : AsRun
 unfolding AsRun
@@ -28,8 +27,8 @@ as_run station store calls ran e = sym (chained calls station store e.givens e.c
 
 pub demand3_on_calls : Demand3OnCalls
 unfolding Demand3OnCalls AsRun
-demand3_on_calls station store s w = demand3_of_station station store s w _ (as_run station store)
+demand3_on_calls station store s w = demand3_of station store s w _ (as_run station store)
 
 pub round_trip_on_calls : RoundTripOnCalls
 unfolding RoundTripOnCalls AsRun
-round_trip_on_calls station store s w = round_trip_of_station station store s w _ (as_run station store)
+round_trip_on_calls station store s w = round_trip_of station store s w _ (as_run station store)

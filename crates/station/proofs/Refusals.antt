@@ -32,11 +32,12 @@ use Rattle.slot.specs.Slots.{closed_slot, open_slot, slot_at, is_closed, open_wi
 use Rattle.slot.specs.Sound.{sound}
 use Rattle.slot.proofs.Keys.{same_key_lem}
 use Rattle.slot.proofs.Places.{place_holds}
-use Rattle.station.specs.Stations.{Bank, sound_bank, full_size, with_slots, area, with_area}
+use Rattle.station.specs.declared.Station.{Station}
+use Rattle.station.specs.Stations.{sound_station, full_size, with_slots, area, with_area}
 use Rattle.station.specs.Receive.{After, unchanged, key_of, progress_of, step_at, deliver, judged_as, examined, let_in, receive, concerned_by, concerned}
 use Rattle.station.specs.Open.{changed_at, opening, closing}
 use Rattle.station.proofs.Soundness.{open_checks, close_checks}
-use Rattle.station.specs.Demands.{idled, left_by, BankRefusedKeeps}
+use Rattle.station.specs.Demands.{idled, left_by, RefusedKeeps}
 
 -- ---- a step
 
@@ -94,101 +95,101 @@ put_back store i =
     ∙ ap (λ (x : List ℕ). take (2048 * i) store ++ x) (take-append-drop 2048 (drop (2048 * i) store))
     ∙ take-append-drop (2048 * i) store
 
-module _ (bank : Bank) (i : ℕ) (key : Key) where
+module _ (station : Station) (i : ℕ) (key : Key) where
   -- the slot that has the key, with what a refusal leaves of it
-  left : (o : Occupancy) → slot_at bank.slots i ≡ record { occupancy = o } → open_with key o ≡ true → (b : Bool)
-      → with_slots bank (set bank.slots i (open_slot key (cond b Idle (progress_of (record { occupancy = o })))))
-      ≡ cond b (with_slots bank (set bank.slots i (idled o))) bank
+  left : (o : Occupancy) → slot_at station.slots i ≡ record { occupancy = o } → open_with key o ≡ true → (b : Bool)
+      → with_slots station (set station.slots i (open_slot key (cond b Idle (progress_of (record { occupancy = o })))))
+      ≡ cond b (with_slots station (set station.slots i (idled o))) station
   left Closed at e b = let z : ◌≡◌ {A = ℕ} 0 1 = cc in absurd (omega arith)
   left (Open stream) at e true =
-      let k = sym (same_key_lem stream.key key e) in ap (λ (x : Key). with_slots bank (set bank.slots i (open_slot x Idle))) k
+      let k = sym (same_key_lem stream.key key e) in ap (λ (x : Key). with_slots station (set station.slots i (open_slot x Idle))) k
   left (Open stream) at e false =
       let k = sym (same_key_lem stream.key key e) in
-      ap (λ (x : Key). with_slots bank (set bank.slots i (open_slot x stream.progress))) k
-      ∙ ap (λ (x : Slot). with_slots bank (set bank.slots i x)) (sym at) ∙ ap (with_slots bank) (set-get_or bank.slots i closed_slot)
+      ap (λ (x : Key). with_slots station (set station.slots i (open_slot x stream.progress))) k
+      ∙ ap (λ (x : Slot). with_slots station (set station.slots i x)) (sym at) ∙ ap (with_slots station) (set-get_or station.slots i closed_slot)
 
 -- ---- a call
 
-abbrev Kept : Bank → List ℕ → (at : ℕ) → After → Type 0
-Kept bank store at r = (n : ℕ) → r.answer ≡ refused n → r ≡ record { answer = refused n; bank = left_by n bank at; store = store }
+abbrev Kept : Station → List ℕ → (at : ℕ) → After → Type 0
+Kept station store at r = (n : ℕ) → r.answer ≡ refused n → r ≡ record { answer = refused n; station = left_by n station at; store = store }
 
 -- where none is concerned
-none_concerned : (bank : Bank) (store : List ℕ) (k : ℕ) → drops k ≡ false → Kept bank store 16 (unchanged bank store (refused k))
+none_concerned : (station : Station) (store : List ℕ) (k : ℕ) → drops k ≡ false → Kept station store 16 (unchanged station store (refused k))
 unfolding left_by
-none_concerned bank store k d n e =
+none_concerned station store k d n e =
     let z : k ≡ n = cc in
-    subst (λ (m : ℕ). unchanged bank store (refused k) ≡ record { answer = refused m; bank = left_by m bank 16; store = store }) z
-    (ap (λ (b : Bool). record { answer = refused k; bank = cond b (with_slots bank (set bank.slots 16 (idled (slot_at bank.slots 16).occupancy))) bank; store = store })
+    subst (λ (m : ℕ). unchanged station store (refused k) ≡ record { answer = refused m; station = left_by m station 16; store = store }) z
+    (ap (λ (b : Bool). record { answer = refused k; station = cond b (with_slots station (set station.slots 16 (idled (slot_at station.slots 16).occupancy))) station; store = store })
     (sym d))
 
 -- what is refused before a slot is looked for drops none
-let_in_refused : (bank : Bank) (store : List ℕ) (bus : ℕ) (image : List ℕ) (n : ℕ) → let_in bank store bus image ≡ refused n → drops n ≡ false
+let_in_refused : (station : Station) (store : List ℕ) (bus : ℕ) (image : List ℕ) (n : ℕ) → let_in station store bus image ≡ refused n → drops n ≡ false
 unfolding checked_then all_true all_after
-let_in_refused bank store bus image n e = go (sound_bank bank) (full_size store) (leb bus 1) e
+let_in_refused station store bus image n e = go (sound_station station) (full_size store) (leb bus 1) e
   where
     other : (k : ℕ) → k ≡ n → drops k ≡ false → drops n ≡ false
     other k q d = subst (λ (m : ℕ). drops m ≡ false) q d
 
-    go : (s w b : Bool) → cond s (cond w (cond b (judge bank.format image) (refused 9)) (refused 13)) (refused 21) ≡ refused n → drops n ≡ false
+    go : (s w b : Bool) → cond s (cond w (cond b (judge station.format image) (refused 9)) (refused 13)) (refused 21) ≡ refused n → drops n ≡ false
     go false w b e = other 21 (cc) refl
     go true false b e = other 13 (cc) refl
     go true true false e = other 9 (cc) refl
-    go true true true e = not-true (drops n) (judging_refusal bank.format image n e (λ m. not (drops m)) refl)
+    go true true true e = not-true (drops n) (judging_refusal station.format image n e (λ m. not (drops m)) refl)
 
-module _ (bank : Bank) (store : List ℕ) (sixteen : length bank.slots ≡ 16) (key : Key) (frame : Frame) where
-  at_deliver : Kept bank store (place (has_key key) bank.slots) (deliver bank store key frame)
+module _ (station : Station) (store : List ℕ) (sixteen : length station.slots ≡ 16) (key : Key) (frame : Frame) where
+  at_deliver : Kept station store (place (has_key key) station.slots) (deliver station store key frame)
   unfolding deliver step_at left_by
-  at_deliver n e = go (ltb (place (has_key key) bank.slots) 16) refl e
+  at_deliver n e = go (ltb (place (has_key key) station.slots) 16) refl e
     where
       at : ℕ
-      at = place (has_key key) bank.slots
+      at = place (has_key key) station.slots
 
-      go : (b : Bool) → ltb (place (has_key key) bank.slots) 16 ≡ b
-          → (cond b (step_at bank store (place (has_key key) bank.slots) key frame) (unchanged bank store (value filtered))).answer ≡ refused n
-          → cond b (step_at bank store (place (has_key key) bank.slots) key frame) (unchanged bank store (value filtered))
-          ≡ record { answer = refused n; bank = left_by n bank (place (has_key key) bank.slots); store = store }
+      go : (b : Bool) → ltb (place (has_key key) station.slots) 16 ≡ b
+          → (cond b (step_at station store (place (has_key key) station.slots) key frame) (unchanged station store (value filtered))).answer ≡ refused n
+          → cond b (step_at station store (place (has_key key) station.slots) key frame) (unchanged station store (value filtered))
+          ≡ record { answer = refused n; station = left_by n station (place (has_key key) station.slots); store = store }
       go false l e = let z : ◌≡◌ {A = ℕ} 0 1 = cc in absurd (omega arith)
       go true l e =
-          let i = place (has_key key) bank.slots in
-          let slot = slot_at bank.slots i in
+          let i = place (has_key key) station.slots in
+          let slot = slot_at station.slots i in
           let in16 : i < 16 = ltb-true _ _ l in
-          let mine : has_key key slot ≡ true = place_holds (has_key key) bank.slots closed_slot (omega (arith, sixteen, in16)) in
-          let s = at_step bank.format (progress_of slot) (area store i) frame n e in
+          let mine : has_key key slot ≡ true = place_holds (has_key key) station.slots closed_slot (omega (arith, sixteen, in16)) in
+          let s = at_step station.format (progress_of slot) (area store i) frame n e in
           (λ k. record {
             answer = (s k).answer;
-            bank = with_slots bank (set bank.slots i (open_slot key (s k).progress));
+            station = with_slots station (set station.slots i (open_slot key (s k).progress));
             store = with_area store i (s k).area;
           })
           ∙ (λ k. record {
             answer = refused n;
-            bank = left bank i key slot.occupancy refl mine (drops n) k;
+            station = left station i key slot.occupancy refl mine (drops n) k;
             store = put_back store i k;
           })
 
-refused_receives : (bank : Bank) (store : List ℕ) (bus : ℕ) (image : List ℕ) → Kept bank store (concerned bank store bus image) (receive bank store bus image)
+refused_receives : (station : Station) (store : List ℕ) (bus : ℕ) (image : List ℕ) → Kept station store (concerned station store bus image) (receive station store bus image)
 unfolding receive concerned sound
-refused_receives bank store bus image n e = go (let_in bank store bus image) refl e
+refused_receives station store bus image n e = go (let_in station store bus image) refl e
   where
-    go : (j : Result Judged) → let_in bank store bus image ≡ j → (judged_as bank store bus j).answer ≡ refused n
-        → judged_as bank store bus j
-        ≡ record { answer = refused n; bank = left_by n bank (concerned_by bank.slots bus j); store = store }
-    go (refused k) q e = none_concerned bank store k (let_in_refused bank store bus image k q) n e
+    go : (j : Result Judged) → let_in station store bus image ≡ j → (judged_as station store bus j).answer ≡ refused n
+        → judged_as station store bus j
+        ≡ record { answer = refused n; station = left_by n station (concerned_by station.slots bus j); store = store }
+    go (refused k) q e = none_concerned station store k (let_in_refused station store bus image k q) n e
     go (value judged) q e =
-        let p = passed_then (check State (sound_bank bank) ∷ check Store (full_size store) ∷ []) (examined bank.format bus image) judged q in
-        at_deliver bank store (eqb-true _ _ (each _ p.0.0).0) (key_of bus judged.frame) judged.frame n e
+        let p = passed_then (check State (sound_station station) ∷ check Store (full_size store) ∷ []) (examined station.format bus image) judged q in
+        at_deliver station store (eqb-true _ _ (each _ p.0.0).0) (key_of bus judged.frame) judged.frame n e
 
-changed_keeps : (bank : Bank) (slot : Slot) (r : Result ℕ) (n : ℕ) → (changed_at bank slot r).answer ≡ refused n → (changed_at bank slot r).bank ≡ bank
-changed_keeps bank slot (value i) n e = let z : ◌≡◌ {A = ℕ} 0 1 = cc in absurd (omega arith)
-changed_keeps bank slot (refused k) n e = refl
+changed_keeps : (station : Station) (slot : Slot) (r : Result ℕ) (n : ℕ) → (changed_at station slot r).answer ≡ refused n → (changed_at station slot r).station ≡ station
+changed_keeps station slot (value i) n e = let z : ◌≡◌ {A = ℕ} 0 1 = cc in absurd (omega arith)
+changed_keeps station slot (refused k) n e = refl
 
-refused_opens : (bank : Bank) (key : Key) (n : ℕ) → (opening bank key).answer ≡ refused n → (opening bank key).bank ≡ bank
+refused_opens : (station : Station) (key : Key) (n : ℕ) → (opening station key).answer ≡ refused n → (opening station key).station ≡ station
 unfolding opening
-refused_opens bank key n e =
-    changed_keeps bank (open_slot key Idle) (guarded (open_checks bank key) (place is_closed bank.slots)) n e
+refused_opens station key n e =
+    changed_keeps station (open_slot key Idle) (guarded (open_checks station key) (place is_closed station.slots)) n e
 
-refused_closes : (bank : Bank) (i n : ℕ) → (closing bank i).answer ≡ refused n → (closing bank i).bank ≡ bank
+refused_closes : (station : Station) (i n : ℕ) → (closing station i).answer ≡ refused n → (closing station i).station ≡ station
 unfolding closing
-refused_closes bank i n e = changed_keeps bank closed_slot (guarded (close_checks bank i) i) n e
+refused_closes station i n e = changed_keeps station closed_slot (guarded (close_checks station i) i) n e
 
-pub bank_refused_keeps : BankRefusedKeeps
-bank_refused_keeps = record { receives = refused_receives; opens = refused_opens; closes = refused_closes }
+pub refused_keeps : RefusedKeeps
+refused_keeps = record { receives = refused_receives; opens = refused_opens; closes = refused_closes }

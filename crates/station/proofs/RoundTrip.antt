@@ -17,7 +17,6 @@ use Rattle.format.specs.Refusals.{Result, value, refused, checked_then}
 use Rattle.format.proofs.Tests.{each, from_each}
 use Rattle.format.proofs.Checks.{pass, none_left}
 use Rattle.format.proofs.Limits.{most_bytes}
-use Rattle.frame.specs.Calls.{Call}
 use Rattle.frame.specs.Judge.{Frame, Judged}
 use Rattle.frame.specs.Image.{image_of}
 use Rattle.packet.specs.Split.{count_of, piece, pieces_from, pieces}
@@ -31,12 +30,13 @@ use Rattle.slot.specs.declared.Stream.{Stream}
 use Rattle.slot.specs.Slots.{open_slot, slot_at, same_key}
 use Rattle.slot.specs.Sound.{same_format, key_in_range, slot_sound}
 use Rattle.slot.proofs.Keys.{same_key_refl}
-use Rattle.station.specs.Stations.{Bank, sound_bank, area, full_size}
+use Rattle.station.specs.declared.Station.{Station}
+use Rattle.station.specs.Stations.{sound_station, area, full_size}
 use Rattle.station.specs.Receive.{key_of, examined}
 use Rattle.station.specs.Open.{is_open}
 use Rattle.station.specs.Read.{reading}
-use Rattle.station.specs.Run.{Ran, run, add_if_of, frames_of}
-use Rattle.station.specs.Demands.{IsStream, shown, alone, fed, woven, answers_to, Arrives, RoundTripFrom, BankRoundTrip}
+use Rattle.station.specs.Run.{Call, Ran, run, add_if_of, frames_of}
+use Rattle.station.specs.Demands.{IsStream, shown, alone, fed, woven, answers_to, Arrives, RoundTripFrom, RoundTripOn, RoundTrip}
 use Rattle.station.proofs.Slots.{sound_at}
 use Rattle.station.proofs.Calls.{Good, good, stays_sound}
 use Rattle.station.proofs.Isolation.{isolated, ended}
@@ -100,11 +100,11 @@ module _ (key : Key) (bytes : List ℕ) (bus : leb key.bus 1 ≡ true) (split : 
 
 -- ---- reading a slot that is done
 
-reads : (bank : Bank) (store : List ℕ) → Good bank store → (i : ℕ) → i < 16 → (key : Key) (a bytes : List ℕ)
-    → slot_at bank.slots i ≡ open_slot key (Done (length bytes)) → area store i ≡ written a 0 bytes → reading bank store i ≡ value bytes
+reads : (station : Station) (store : List ℕ) → Good station store → (i : ℕ) → i < 16 → (key : Key) (a bytes : List ℕ)
+    → slot_at station.slots i ≡ open_slot key (Done (length bytes)) → area store i ≡ written a 0 bytes → reading station store i ≡ value bytes
 unfolding reading is_open written
-reads bank store g i h key a bytes e w =
-    let s : sound_bank bank ≡ true = stays_sound bank store g in
+reads station store g i h key a bytes e w =
+    let s : sound_station station ≡ true = stays_sound station store g in
     let f : full_size store ≡ true = eq-eqb _ _ g.whole in
     rw (e, w, take_at bytes (drop (0 + length bytes) a) (length bytes) refl)
     (sym (pass refusal.State _ _ s (pass refusal.Store _ _ f (pass refusal.Closed _ _ (from_each _ (lt-ltb _ _ h, (refl, tt))) (pass refusal.NoPacket _ _ refl (none_left bytes))))))
@@ -117,54 +117,54 @@ same_format_lem Standard Standard e = refl
 same_format_lem Extended Standard e = let z : ◌≡◌ {A = ℕ} 0 1 = cc in absurd (omega arith)
 same_format_lem Standard Extended e = let z : ◌≡◌ {A = ℕ} 0 1 = cc in absurd (omega arith)
 
-in_range_lem : (bank : Bank) (store : List ℕ) → Good bank store → (i : ℕ) (stream : Stream) → IsStream bank i stream
-    → key_in_range bank.format stream.key ≡ true
+in_range_lem : (station : Station) (store : List ℕ) → Good station store → (i : ℕ) (stream : Stream) → IsStream station i stream
+    → key_in_range station.format stream.key ≡ true
 unfolding slot_sound
-in_range_lem bank store g i stream s =
-    let here = sound_at bank.format bank.slots g.fit i (omega (arith, g.sixteen, s.0)) in
+in_range_lem station store g i stream s =
+    let here = sound_at station.format station.slots g.fit i (omega (arith, g.sixteen, s.0)) in
     (each _ (rw s.1 at here)).0
 
-arrives : (bank : Bank) (store : List ℕ) → Good bank store → RoundTripFrom bank store (λ calls ran. run bank store calls ≡ ran)
+arrives : (station : Station) (store : List ℕ) → Good station store → RoundTripFrom station store (λ calls ran. run station store calls ≡ ran)
 unfolding RoundTripFrom Splitting key_in_range shown alone
-arrives bank store g i stream h bytes small others none choices ran ends =
+arrives station store g i stream h bytes small others none choices ran ends =
     let key = stream.key in
-    let range = each _ (in_range_lem bank store g i stream h) in
-    let fm : bank.format ≡ format_of key.fields = same_format_lem _ _ range.1.0 in
+    let range = each _ (in_range_lem station store g i stream h) in
+    let fm : station.format ≡ format_of key.fields = same_format_lem _ _ range.1.0 in
     let limit : length bytes ≤ packet_limit (format_of key.fields) = subst (λ (f : Format). length bytes ≤ packet_limit f) fm small in
     let split = splitting key.fields bytes range.1.1.0 limit in
     let own = fed key.bus (pieces key.fields bytes) in
     let calls = woven choices own others in
-    let frames : frames_of bank.format key calls ≡ pieces key.fields bytes =
-    frames_woven bank.format key choices own others none
+    let frames : frames_of station.format key calls ≡ pieces key.fields bytes =
+    frames_woven station.format key choices own others none
     ∙ ap (λ (f : Format). frames_of f key own) fm ∙ all_pieces key bytes range.0 split in
-    let is = isolated bank store g calls in
-    let x : alone bank.format i stream store calls
+    let is = isolated station store g calls in
+    let x : alone station.format i stream store calls
     ≡ record {
       answers = answers_to (length (pieces key.fields bytes)) (length bytes) (collecting stream.progress);
       progress = Done (length bytes);
       area = written (area store i) 0 bytes;
     } =
-    ap (one_stream bank.format stream.progress (area store i)) frames
+    ap (one_stream station.format stream.progress (area store i)) frames
     ∙ ap (λ (f : Format). one_stream f stream.progress (area store i) (pieces key.fields bytes)) fm
     ∙ fed_alone key.fields bytes (area store i) stream.progress (omega (arith, most_bytes (format_of key.fields))) in
     let e = is.streams i stream h ∙ x in
-    subst (Arrives bank i stream bytes calls) ends
+    subst (Arrives station i stream bytes calls) ends
     (record {
       reads =
-          reads (run bank store calls).bank (run bank store calls).store (ended calls bank store g).well i h.0 key (area store i) bytes
+          reads (run station store calls).station (run station store calls).store (ended calls station store g).well i h.0 key (area store i) bytes
           (is.slots i stream h ∙ ap (λ (y : Alone). open_slot key y.progress) x)
           (ap (λ (y : Alone). y.area) e);
       answers = ap (λ (y : Alone). y.answers) e;
     })
 
 -- of whatever ends as the run does
-pub round_trip_of : (bank : Bank) (store : List ℕ) → sound_bank bank ≡ true → full_size store ≡ true
-    → (Ends : List Call → Ran → Type 0) → ((calls : List Call) (ran : Ran) → Ends calls ran → run bank store calls ≡ ran)
-    → RoundTripFrom bank store Ends
+pub round_trip_of : (station : Station) (store : List ℕ) → sound_station station ≡ true → full_size store ≡ true
+    → (Ends : List Call → Ran → Type 0) → ((calls : List Call) (ran : Ran) → Ends calls ran → run station store calls ≡ ran)
+    → RoundTripFrom station store Ends
 unfolding RoundTripFrom
-round_trip_of bank store s w Ends as_run i stream h bytes small others none choices ran ends =
-    arrives bank store (good bank store s w) i stream h bytes small others none choices ran (as_run _ ran ends)
+round_trip_of station store s w Ends as_run i stream h bytes small others none choices ran ends =
+    arrives station store (good station store s w) i stream h bytes small others none choices ran (as_run _ ran ends)
 
-pub bank_round_trip : BankRoundTrip
-unfolding BankRoundTrip
-bank_round_trip bank store s w = round_trip_of bank store s w (λ calls ran. run bank store calls ≡ ran) (λ calls ran e. e)
+pub round_trip_lem : RoundTrip
+unfolding RoundTripOn
+round_trip_lem station store s w = round_trip_of station store s w (λ calls ran. run station store calls ≡ ran) (λ calls ran e. e)

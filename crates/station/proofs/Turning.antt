@@ -36,7 +36,7 @@ use Rattle.slot.specs.Slots.{closed_slot, open_slot, slot_at, has_key, place}
 use Rattle.slot.specs.Sound.{sound, sought}
 use Rattle.slot.proofs.Places.{place_within}
 use Rattle.station.specs.declared.Turn.{Turn}
-use Rattle.station.specs.Stations.{bank_with, area, with_area}
+use Rattle.station.specs.Stations.{station_of, area, with_area}
 use Rattle.station.specs.Receive.{After, unchanged, key_of, progress_of, step_at, deliver, judged_as, receive, concerned_by, concerned, after_turn}
 use Rattle.station.specs.Parts.{refused_as, frame_of, Steps}
 use Rattle.station.proofs.Areas.{area_length}
@@ -74,28 +74,28 @@ names_first slots = record { at = 0; slot = slot_at slots 0; kept = set-get_or s
 module _ (format : Format) (slots : List Slot) (store : List ℕ) (bus : ℕ) (image : List ℕ) where
   -- the image is a frame
   module _ (s : sound format slots ≡ true) (w : length store ≡ 32768) (b : bus ≤ 1) (judged : Judged) (e : value judged ≡ judge format image) where
-    as-frame : receive (bank_with format slots) store bus image ≡ deliver (bank_with format slots) store (key_of bus judged.frame) judged.frame
+    as-frame : receive (station_of format slots) store bus image ≡ deliver (station_of format slots) store (key_of bus judged.frame) judged.frame
     unfolding receive checked_then
     as-frame = rw (s, eq-eqb (length store) 32768 w, le-leb bus 1 b, sym e)
 
     pub at_slot : (i : ℕ) → place (has_key (key_of bus judged.frame)) slots ≡ i → i < 16
         → (r : Turn) (last : List ℕ) → Steps format (slot_at slots i) i (key_of bus judged.frame) judged.frame store r last
-        → after_turn format slots r last ≡ receive (bank_with format slots) store bus image
+        → after_turn format slots r last ≡ receive (station_of format slots) store bus image
     unfolding deliver step_at
     at_slot i p h r last t =
         rw (as-frame, p, lt-ltb i 16 h)
         (λ k. record {
           answer = t.answer k;
-          bank = bank_with format (set slots (t.at k) (t.slot' k));
+          station = station_of format (set slots (t.at k) (t.slot' k));
           store = t.bytes k;
         })
 
-    pub on-frame : place (has_key (key_of bus judged.frame)) slots ≡ concerned (bank_with format slots) store bus image
+    pub on-frame : place (has_key (key_of bus judged.frame)) slots ≡ concerned (station_of format slots) store bus image
     unfolding concerned checked_then
     on-frame = rw (s, eq-eqb (length store) 32768 w, le-leb bus 1 b, sym e) refl
 
   -- no slot is concerned
-  pub on_image : (own : Refusal) → refused (number own) ≡ judge format image → 16 ≡ concerned (bank_with format slots) store bus image
+  pub on_image : (own : Refusal) → refused (number own) ≡ judge format image → 16 ≡ concerned (station_of format slots) store bus image
   unfolding concerned checked_then
   on_image own e = go (sound format slots) (eqb (length store) 32768) (leb bus 1)
     where
@@ -105,20 +105,20 @@ module _ (format : Format) (slots : List Slot) (store : List ℕ) (bus : ℕ) (i
       go true true false = refl
       go true true true = ap (λ (j : Result Judged). concerned_by slots bus j) e
 
-  pub on_state_lem : (key : Key) (name : Refusal) → refused (number name) ≡ sought format slots key → 16 ≡ concerned (bank_with format slots) store bus image
+  pub on_state_lem : (key : Key) (name : Refusal) → refused (number name) ≡ sought format slots key → 16 ≡ concerned (station_of format slots) store bus image
   unfolding concerned checked_then
   on_state_lem key name e = rw (sought_refused format slots key (number name) (sym e)).0 refl
 
-  pub on_store : sound format slots ≡ true → length store ≢ 32768 → 16 ≡ concerned (bank_with format slots) store bus image
+  pub on_store : sound format slots ≡ true → length store ≢ 32768 → 16 ≡ concerned (station_of format slots) store bus image
   unfolding concerned checked_then
   on_store s w = rw (s, ne_eqb (length store) 32768 w) refl
 
-  pub on_field : sound format slots ≡ true → length store ≡ 32768 → 1 < bus → 16 ≡ concerned (bank_with format slots) store bus image
+  pub on_field : sound format slots ≡ true → length store ≡ 32768 → 1 < bus → 16 ≡ concerned (station_of format slots) store bus image
   unfolding concerned checked_then
   on_field s w b = rw (s, eq-eqb (length store) 32768 w, lt-leb bus 1 b) refl
 
   pub on_none : length slots ≡ 16 → sound format slots ≡ true → length store ≡ 32768 → bus ≤ 1 → (judged : Judged) → value judged ≡ judge format image
-      → (i : ℕ) → place (has_key (key_of bus judged.frame)) slots ≡ i → 16 ≤ i → 16 ≡ concerned (bank_with format slots) store bus image
+      → (i : ℕ) → place (has_key (key_of bus judged.frame)) slots ≡ i → 16 ≤ i → 16 ≡ concerned (station_of format slots) store bus image
   on_none n s w b judged e i p h =
       let most = place_within (has_key (key_of bus judged.frame)) slots in
       let all : 16 ≡ place (has_key (key_of bus judged.frame)) slots = omega (arith, most, n, p, h) in
@@ -129,52 +129,52 @@ module _ (format : Format) (slots : List Slot) (store : List ℕ) (bus : ℕ) (i
     abbrev pub unmoved : Answer → After
     unmoved answer = after_turn format slots (turn_of l.at l.slot answer) store
 
-    stays : (answer : Answer) (r : After) → r ≡ unchanged (bank_with format slots) store (meaning answer) → unmoved answer ≡ r
+    stays : (answer : Answer) (r : After) → r ≡ unchanged (station_of format slots) store (meaning answer) → unmoved answer ≡ r
     stays answer r e = rw l.kept (sym e)
 
     -- the image is refused
     pub at-image : (own : Refusal) → refused (number own) ≡ judge format image
-        → unmoved (Refused (refused_as format slots (length store) bus own)) ≡ receive (bank_with format slots) store bus image
+        → unmoved (Refused (refused_as format slots (length store) bus own)) ≡ receive (station_of format slots) store bus image
     unfolding refused_as receive checked_then
     at-image own e = go (sound format slots) (eqb (length store) 32768) (leb bus 1)
       where
         go : (s w b : Bool)
             → unmoved (Refused (cond s (cond w (cond b own Field) Store) State))
-            ≡ judged_as (bank_with format slots) store bus (cond s (cond w (cond b (judge format image) (refused 9)) (refused 13)) (refused 21))
+            ≡ judged_as (station_of format slots) store bus (cond s (cond w (cond b (judge format image) (refused 9)) (refused 13)) (refused 21))
         go false w b = stays (Refused State) _ refl
         go true false b = stays (Refused Store) _ refl
         go true true false = stays (Refused Field) _ refl
-        go true true true = stays (Refused own) _ (ap (λ (j : Result Judged). judged_as (bank_with format slots) store bus j) (sym e))
+        go true true true = stays (Refused own) _ (ap (λ (j : Result Judged). judged_as (station_of format slots) store bus j) (sym e))
 
     pub at_state : (key : Key) (name : Refusal) → refused (number name) ≡ sought format slots key
-        → unmoved (Refused name) ≡ receive (bank_with format slots) store bus image
+        → unmoved (Refused name) ≡ receive (station_of format slots) store bus image
     unfolding receive
     at_state key name e =
         let u = sought_refused format slots key (number name) (sym e) in
         let why = sym (stop_then State _ _ u.0) ∙ ap refused (sym u.1) in
-        stays (Refused name) _ (ap (judged_as (bank_with format slots) store bus) why)
+        stays (Refused name) _ (ap (judged_as (station_of format slots) store bus) why)
 
     pub at_store : sound format slots ≡ true → length store ≢ 32768
-        → unmoved (Refused Store) ≡ receive (bank_with format slots) store bus image
+        → unmoved (Refused Store) ≡ receive (station_of format slots) store bus image
     unfolding receive checked_then
     at_store s w = stays (Refused Store) _ (rw (s, ne_eqb (length store) 32768 w))
 
     pub at_field : sound format slots ≡ true → length store ≡ 32768 → 1 < bus
-        → unmoved (Refused Field) ≡ receive (bank_with format slots) store bus image
+        → unmoved (Refused Field) ≡ receive (station_of format slots) store bus image
     unfolding receive checked_then
     at_field s w b = stays (Refused Field) _ (rw (s, eq-eqb (length store) 32768 w, lt-leb bus 1 b))
 
     pub at_none : sound format slots ≡ true → length store ≡ 32768 → bus ≤ 1 → (judged : Judged) → value judged ≡ judge format image
         → (i : ℕ) → place (has_key (key_of bus judged.frame)) slots ≡ i → 16 ≤ i
-        → unmoved Filtered ≡ receive (bank_with format slots) store bus image
+        → unmoved Filtered ≡ receive (station_of format slots) store bus image
     unfolding deliver
     at_none s w b judged e i p h = rw (as-frame s w b judged e) (stays Filtered _ (rw (p, le-ltb i 16 h)))
 
 -- a turn that names no slot
 pub none_named : (format : Format) (slots : List Slot) → length slots ≡ 16 → (r : Turn) (store : List ℕ) → 16 ≤ r.at
-    → record { answer = meaning r.answer; bank = bank_with format slots; store = store } ≡ after_turn format slots r store
+    → record { answer = meaning r.answer; station = station_of format slots; store = store } ≡ after_turn format slots r store
 none_named format slots sixteen r store h =
-    ap (λ (l : List Slot). record { answer = meaning r.answer; bank = bank_with format l; store = store })
+    ap (λ (l : List Slot). record { answer = meaning r.answer; station = station_of format l; store = store })
     (sym (set_out slots r.at r.slot (omega (arith, sixteen))))
 
 -- ---- the stream of slot i steps on its area

@@ -11,55 +11,40 @@ use Rattle.slot.specs.Slots.{closed_slot, open_slot, slot_at, is_closed, has_key
 use Rattle.slot.specs.Sound.{key_in_range, any}
 use Rattle.station.specs.declared.Station.{Station}
 use Rattle.station.specs.declared.Changed.{Changed}
-use Rattle.station.specs.Stations.{Bank, bank_of, with_bank, sound_bank, with_slots}
+use Rattle.station.specs.Stations.{sound_station, with_slots}
 
 -- the answer, and the station handed back
-pub record BankAfter : Type 0 where
+pub record StationAfter : Type 0 where
   pub answer : Result ℕ
-  pub bank : Bank
+  pub station : Station
 
 -- slot i becomes that; a refusal hands back the station handed in
-abbrev pub changed_at : Bank → Slot → Result ℕ → BankAfter
-changed_at bank slot (value i) = record { answer = value i; bank = with_slots bank (set bank.slots i slot) }
-changed_at bank slot (refused n) = record { answer = refused n; bank = bank }
+abbrev pub changed_at : Station → Slot → Result ℕ → StationAfter
+changed_at station slot (value i) = record { answer = value i; station = with_slots station (set station.slots i slot) }
+changed_at station slot (refused n) = record { answer = refused n; station = station }
 
 -- FIELD: a field or bus of the key is out of range, or its fields are of the other format. TAKEN: key already open. FULL: all 16
 -- open
-unfoldable pub opening : Bank → Key → BankAfter
-opening bank key =
-    changed_at bank (open_slot key Idle)
+unfoldable pub opening : Station → Key → StationAfter
+opening station key =
+    changed_at station (open_slot key Idle)
     (guarded
-    (check refusal.State (sound_bank bank)
-    ∷ check refusal.Field (key_in_range bank.format key)
-    ∷ check refusal.Taken (not (any (has_key key) bank.slots))
-    ∷ check refusal.Full (any is_closed bank.slots)
+    (check refusal.State (sound_station station)
+    ∷ check refusal.Field (key_in_range station.format key)
+    ∷ check refusal.Taken (not (any (has_key key) station.slots))
+    ∷ check refusal.Full (any is_closed station.slots)
     ∷ [])
-    (place is_closed bank.slots))
+    (place is_closed station.slots))
 
 -- CLOSED: slot number over 15 or slot closed
 unfoldable pub is_open : List Slot → ℕ → Bool
 is_open slots i = all_true (ltb i 16 ∷ not (is_closed (slot_at slots i)) ∷ [])
 
-unfoldable pub closing : Bank → ℕ → BankAfter
-closing bank i =
-    changed_at bank closed_slot
-    (guarded (check refusal.State (sound_bank bank) ∷ check refusal.Closed (is_open bank.slots i) ∷ []) i)
-
--- ---- a station opens and closes in its bank
-
-pub record StationChanged : Type 0 where
-  pub answer : Result ℕ
-  pub station : Station
-
-abbrev pub in_bank : Station → BankAfter → StationChanged
-in_bank station after = record { answer = after.answer; station = with_bank station after.bank }
-
-unfoldable pub station_open : Station → Key → StationChanged
-station_open station key = in_bank station (opening (bank_of station) key)
-
-unfoldable pub station_close : Station → ℕ → StationChanged
-station_close station i = in_bank station (closing (bank_of station) i)
+unfoldable pub closing : Station → ℕ → StationAfter
+closing station i =
+    changed_at station closed_slot
+    (guarded (check refusal.State (sound_station station) ∷ check refusal.Closed (is_open station.slots i) ∷ []) i)
 
 -- what the code hands back says
-abbrev pub station_after : Changed → StationChanged
+abbrev pub station_after : Changed → StationAfter
 station_after r = record { answer = meaning r.answer; station = r.station }

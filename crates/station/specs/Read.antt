@@ -8,7 +8,8 @@ use Rattle.stream.specs.declared.Progress.{Progress}
 use Rattle.stream.specs.declared.Progress.TheVariants.{Idle, Collecting, Done}
 use Rattle.stream.specs.Step.{held}
 use Rattle.slot.specs.Slots.{slot_at}
-use Rattle.station.specs.Stations.{Bank, sound_bank, area, full_size}
+use Rattle.station.specs.declared.Station.{Station}
+use Rattle.station.specs.Stations.{sound_station, area, full_size}
 use Rattle.station.specs.Receive.{progress_of}
 use Rattle.station.specs.Open.{is_open}
 
@@ -18,13 +19,13 @@ is_done (Collecting h) = false
 is_done (Done h) = true
 
 -- the packet of slot i. CLOSED: slot number over 15 or slot closed. NOPACKET: slot not done
-unfoldable pub reading : Bank → List ℕ → ℕ → Result (List ℕ)
-reading bank store i =
-    let progress : Progress = progress_of (slot_at bank.slots i) in
+unfoldable pub reading : Station → List ℕ → ℕ → Result (List ℕ)
+reading station store i =
+    let progress : Progress = progress_of (slot_at station.slots i) in
     guarded
-    (check refusal.State (sound_bank bank)
+    (check refusal.State (sound_station station)
     ∷ check refusal.Store (full_size store)
-    ∷ check refusal.Closed (is_open bank.slots i)
+    ∷ check refusal.Closed (is_open station.slots i)
     ∷ check refusal.NoPacket (is_done progress)
     ∷ [])
     (take (held progress) (area store i))

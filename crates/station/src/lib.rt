@@ -1,11 +1,9 @@
 // A station: sixteen slots of one format; receiving, opening, closing and reading.
 ghost use Rattle.std.specs.Prelude.{◌≡◌, ◌-◌, ◌≤◌, ◌<◌, length};
 ghost use Rattle.format.specs.Refusals.{meaning};
-ghost use Rattle.stream.specs.Answers.{meaning as meaning·reply};
 ghost use Rattle.slot.specs.Slots.{closed_slot, open_slot};
-ghost use Rattle.tally.specs.Tallies.{raised};
-ghost use Rattle.station.specs.Stations.{bank_with, bank_of, station_with, new_station};
-ghost use Rattle.station.specs.Receive.{key_of, progress_in, receive, station_receive, concerned, station_concerned, after, after_turn, after_tallied};
+ghost use Rattle.station.specs.Stations.{station_of, new_station};
+ghost use Rattle.station.specs.Receive.{key_of, progress_in, receive, concerned, after, after_turn};
 ghost use Rattle.station.specs.Open as handing;
 ghost use Rattle.station.specs.Read.{reading, length_of, part_of, place_of};
 ghost use Rattle.station.specs.Parts.{refused_as, frame_of, Steps};
@@ -16,13 +14,11 @@ use format::{Format, Outcome, Refusal};
 use frame::{Head, Verdict, judge};
 use slot::{Key, Occupancy, Slot, Stream, first_closed, key_in_range, seek, sound};
 use stream::{Answer, Area, Progress, step};
-use tally::{Tallies, none_full, raise, tally_of};
 
 #[derive(Drop)]
 pub struct Station {
     pub format: Format,
     pub slots: [Slot; 16],
-    pub tallies: [u64; 14],
 }
 
 // The bytes lent to a station: an area for each slot.
@@ -155,10 +151,10 @@ fn unchanged(slot: Slot, answer: Answer) -> Turn
     }
 }
 
-// Receives an image on a bus, over the bare slots and the lent store. Where no slot is concerned, at
-// is 16 and slot is any.
-fn bank_turn(format: Format, slots: [Slot; 16], store: &mut [u8], bus: u8, image: &[u8]) -> Turn
-    ensures { (result.at ≡ concerned (bank_with format slots) store.old bus image.now) × (after_turn format slots result store.new ≡ receive (bank_with format slots) store.old bus image.now) }
+// Receives an image on a bus, over the bare slots and the lent store: the work of every front, which
+// has only to store the slot named, the one concerned. Where none is, at is 16 and slot is any.
+pub fn take_turn(format: Format, slots: [Slot; 16], store: &mut [u8], bus: u8, image: &[u8]) -> Turn
+    ensures { (result.at ≡ concerned (station_of format slots) store.old bus image.now) × (after_turn format slots result store.new ≡ receive (station_of format slots) store.old bus image.now) }
 {
     let first = slots[0];
     match judge(format, image) {
@@ -192,47 +188,6 @@ fn bank_turn(format: Format, slots: [Slot; 16], store: &mut [u8], bus: u8, image
     }
 }
 
-// The same where the tallies allow it, which are only looked at. Where one is full, nothing changes, and
-// the refusal is TALLY unless one comes before it.
-fn allowed_turn(
-    format: Format,
-    slots: [Slot; 16],
-    tallies: &[u64],
-    store: &mut [u8],
-    bus: u8,
-    image: &[u8],
-) -> Turn
-    ensures { (result.at ≡ station_concerned (station_with (bank_with format slots) tallies.now) store.old bus image.now) × (after_tallied format slots result (raised (meaning·reply result.answer) tallies.now) store.new ≡ station_receive (station_with (bank_with format slots) tallies.now) store.old bus image.now) }
-{
-    let first = slots[0];
-    if tallies.len() != Tallies::COUNT {
-        return unchanged(first, Answer::Refused(Refusal::State));
-    }
-    if !none_full(tallies) {
-        let name = refused_as(format, slots, store.len(), bus, Refusal::Tally);
-        return unchanged(first, Answer::Refused(name));
-    }
-    bank_turn(format, slots, store, bus, image)
-}
-
-// The same with lent tallies, of which the answer's is raised: the work of every front, which has only
-// to store the slot named, the one concerned.
-pub fn take_turn(
-    format: Format,
-    slots: [Slot; 16],
-    tallies: &mut [u64],
-    store: &mut [u8],
-    bus: u8,
-    image: &[u8],
-) -> Turn
-    ensures { (result.at ≡ station_concerned (station_with (bank_with format slots) tallies.old) store.old bus image.now) × (after_tallied format slots result tallies.new store.new ≡ station_receive (station_with (bank_with format slots) tallies.old) store.old bus image.now) }
-{
-    let t = allowed_turn(format, slots, tallies, store, bus, image);
-    let answer = t.answer;
-    raise(tallies, answer);
-    t
-}
-
 fn open_at(slots: [Slot; 16], i: usize) -> bool
     ensures { result ≡ handing.is_open slots i }
 {
@@ -248,43 +203,30 @@ fn open_at(slots: [Slot; 16], i: usize) -> bool
 }
 
 impl Station {
-    // A station of a format, with every slot closed and every tally 0.
+    // A station of a format, with every slot closed.
     pub fn new(format: Format) -> Station
         ensures { result ≡ new_station format }
     {
         let slot = closed_slot();
         let slots = [slot; 16];
-        let tallies = [0u64; Tallies::COUNT];
-        Station {
-            format,
-            slots,
-            tallies,
-        }
+        Station { format, slots }
     }
 
     // Receives an image on a bus; the store is lent. Answers packet and its length, kept, filtered
-    // or a refusal: STATE, STORE, FIELD, TALLY, LENGTH, FORM, REMOTE, COUNT, SURPLUS, PIECE, ORPHAN,
-    // STEP, LONG. The tally of the answer goes up by one, if it has one.
+    // or a refusal: STATE, STORE, FIELD, LENGTH, FORM, REMOTE, COUNT, SURPLUS, PIECE, ORPHAN, STEP,
+    // LONG.
     pub fn receive(mut self, store: &mut [u8], bus: u8, image: &[u8]) -> Received
-        ensures { after result store.new ≡ station_receive self store.old bus image.now }
+        ensures { after result store.new ≡ receive self store.old bus image.now }
     {
         let format = self.format;
         let slots = self.slots;
-        let tallies = self.tallies;
-        let t = allowed_turn(format, slots, &tallies, store, bus, image);
+        let t = take_turn(format, slots, store, bus, image);
         let at = t.at;
         let slot = t.slot;
         if at < 16 {
             self.slots[at] = slot;
         }
         let answer = t.answer;
-        let i = tally_of(answer);
-        if i < Tallies::COUNT {
-            let n = self.tallies[i];
-            if n < u64::MAX {
-                self.tallies[i] = n + 1;
-            }
-        }
         Received {
             station: self,
             answer: answer,
@@ -294,7 +236,7 @@ impl Station {
     // Opens a key in the lowest closed slot and answers that slot's number, or refuses: STATE,
     // FIELD, TAKEN, FULL.
     pub fn open(mut self, key: Key) -> Changed
-        ensures { handing.station_after result ≡ handing.station_open self key }
+        ensures { handing.station_after result ≡ handing.opening self key }
     {
         let format = self.format;
         let slots = self.slots;
@@ -335,7 +277,7 @@ impl Station {
 
     // Closes a slot and answers its number, or refuses: STATE, CLOSED.
     pub fn close(mut self, i: usize) -> Changed
-        ensures { handing.station_after result ≡ handing.station_close self i }
+        ensures { handing.station_after result ≡ handing.closing self i }
     {
         let format = self.format;
         let slots = self.slots;
@@ -364,7 +306,7 @@ impl Station {
     // The length of the packet of a slot that is done, or a refusal: STATE, STORE, CLOSED,
     // NOPACKET.
     pub fn read_length(self, store: &[u8], i: usize) -> Outcome
-        ensures { meaning result ≡ length_of (reading (bank_of self) store.now i) }
+        ensures { meaning result ≡ length_of (reading self store.now i) }
     {
         let format = self.format;
         let slots = self.slots;
@@ -393,8 +335,8 @@ impl Station {
     // The packet of a slot that is done: that part of the store itself, the head of the slot's
     // area. Empty where read_length refuses.
     pub fn read(self, store: &[u8], i: usize) -> &[u8]
-        ensures result_value { result.now ≡ part_of (reading (bank_of self) store.now i) }
-        ensures ref_ptr_value { result.ref_ptr ≡ (store.entry.ref_ptr.0, place_of (reading (bank_of self) store.now i) store.entry.ref_ptr.1 i) }
+        ensures result_value { result.now ≡ part_of (reading self store.now i) }
+        ensures ref_ptr_value { result.ref_ptr ≡ (store.entry.ref_ptr.0, place_of (reading self store.now i) store.entry.ref_ptr.1 i) }
     {
         match self.read_length(store, i) {
             Outcome::Refused(_) => &store[..0],
@@ -409,21 +351,13 @@ impl Station {
 
 // The claims of this crate. It does nothing: its contract ties each claim to its proof.
 pub fn promised()
-    ensures bank_isolated { demands.BankIsolated }
     ensures demand3 { demands.Demand3 }
     ensures as_run { demands.AsRun }
     ensures demand3_on_calls { demands.Demand3OnCalls }
-    ensures bank_round_trip { demands.BankRoundTrip }
     ensures round_trip { demands.RoundTrip }
     ensures round_trip_on_calls { demands.RoundTripOnCalls }
-    ensures tallied { demands.Tallied }
-    ensures full_refuses { demands.FullRefuses }
-    ensures room_is_enough { demands.RoomIsEnough }
-    ensures equal_tallies { demands.EqualTallies }
-    ensures bank_refused_keeps { demands.BankRefusedKeeps }
     ensures refused_keeps { demands.RefusedKeeps }
     ensures stays_sound { demands.StaysSound }
-    ensures station_stays_sound { demands.StationStaysSound }
     ensures never_long { demands.NeverLong }
     ensures can_be_met { demands.CanBeMet }
     ensures station_bounds { StationBounds }

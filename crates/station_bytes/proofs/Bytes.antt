@@ -4,22 +4,26 @@ use native.Mathlib.Omega.{arith}
 use mathlib.Core.Path.{◌≡◌, refl, ◌∙◌, sym, ap}
 use mathlib.Core.Bool.{Bool, true, false, cond, not, false≢true}
 use mathlib.Core.List.{List, [], ◌∷◌, ◌++◌, append_assoc}
-use lib.Dec.{eqb}
-use lib.ListN.{length, get_or, set, take, drop, length-append, length-drop, take-append-drop}
-use lib.Seq.{take_all, split_at, set_split, take-add, drop-drop, drop-cons, take_at, drop_at, length-take-le}
+use lib.Dec.{eqb, leb}
+use lib.ListN.{length, get_or, set, take, drop, length-append, drop_of_length-le, take-append-drop}
+use lib.Seq.{split_at, set_split, take-add, drop-drop, drop-cons, take_at, drop_at, length-take-le}
 use borrow.Author.Tests.{eqb-true, leb-true}
 use Rattle.copying.specs.Copy.{written, copied}
 use Rattle.copying.proofs.Copying.{all_copied}
 use Rattle.format.specs.declared.Format.{Format}
 use Rattle.format.specs.Tests.{all_true}
 use Rattle.format.proofs.Tests.{each}
+use Rattle.stream.specs.declared.Progress.{Progress}
+use Rattle.slot.specs.declared.Key.{Key}
 use Rattle.slot.specs.declared.Slot.{Slot}
 use Rattle.slot.specs.Slots.{closed_slot, open_slot, slot_at}
 use Rattle.slot.specs.Codes.{key_code, clashing}
+use Rattle.station.specs.declared.Station.{Station}
+use Rattle.station.specs.Stations.{station_of, with_slots}
 use Rattle.words.specs.Words.{word_bytes, word_at}
-use Rattle.words.proofs.Laws.{written_at, four, long_written_at}
-use Rattle.station_bytes.specs.States.{layout_number, format_number, format_in, format_at, progress_number, progress_from, key_in, first_of, second_of, slot_bytes, slots_bytes, tallies_bytes, tallies_from, slot_in, slots_from, slot_written, slots_written, bank_in, is_state}
-use Rattle.station_bytes.specs.Parts.{records_good, record_codes, with_bank_in, Tested, IsThere}
+use Rattle.words.proofs.Laws.{written_at, four}
+use Rattle.station_bytes.specs.States.{layout_number, format_number, format_in, format_at, progress_number, progress_from, key_in, first_of, second_of, slot_bytes, slots_bytes, state_bytes, slot_in, slots_from, slot_written, slots_written, station_in, is_state}
+use Rattle.station_bytes.specs.Parts.{records_good, record_codes, Tested, IsThere}
 use Rattle.station_bytes.proofs.Scans.{codes_length, other_end, not_tested, not_good, its-codes, good-tested}
 
 -- ---- a number that stands where it is to be written
@@ -90,17 +94,17 @@ module _ (state : List ℕ) (bytes : (k : ℕ) → get_or state k 0 < 256) where
       go (suc zero) h = refl
       go (suc (suc n)) h = absurd (omega arith)
 
-  -- the bank at the head of the bytes
-  pub same_bytes : is_state state ≡ true → with_bank_in state (bank_in state) ≡ state
+  pub same_bytes : is_state state ≡ true → state_bytes (station_in state) ≡ state
   unfolding is_state
   same_bytes e =
       let t = each _ e in
-      let n : length state ≡ 242 = eqb-true (length state) 242 t.0 in
+      let n : length state ≡ 130 = eqb-true (length state) 130 t.0 in
       let slots = slots_bytes_lem (format_at state) 16 0 (omega arith) t.1.1.1.0 in
       let format = format_back (leb-true (get_or state 128 0) 1 t.1.0) in
       let number : get_or state 129 0 ≡ layout_number = eqb-true (get_or state 129 0) layout_number t.1.1.0 in
       let end : drop 128 state ≡ get_or state 128 0 ∷ drop 129 state = drop-cons state 128 0 (omega arith) in
       let last : drop 129 state ≡ get_or state 129 0 ∷ drop 130 state = drop-cons state 129 0 (omega arith) in
+      let none : drop 130 state ≡ [] = drop_of_length-le state {i = 130} (omega arith) in
       let whole : take 128 state ++ drop 128 state ≡ state = sym (split state 128) in
       cc
     where
@@ -108,26 +112,6 @@ module _ (state : List ℕ) (bytes : (k : ℕ) → get_or state k 0 < 256) where
       split l zero = refl
       split [] (suc n) = refl
       split (x ∷ l) (suc n) = ap (λ (r : List ℕ). x ∷ r) (split l n)
-
-  -- the tallies behind it
-  tallies_bytes_lem : (n i : ℕ) → 130 + 8 * i + 8 * n ≤ length state
-      → tallies_bytes (tallies_from state i n) ≡ take (8 * n) (drop (130 + 8 * i) state)
-  unfolding tallies_from
-  tallies_bytes_lem zero i h = refl
-  tallies_bytes_lem (suc n) i h =
-      let here = long_written_at state bytes (130 + 8 * i) (omega (arith, h)) in
-      let rest = tallies_bytes_lem n (i + 1) (omega (arith, h)) in
-      let next : 130 + 8 * (i + 1) ≡ 130 + 8 * i + 8 = omega arith in
-      let all_of : 8 * suc n ≡ 8 + 8 * n = omega arith in
-      let further = drop-drop 8 (130 + 8 * i) state in
-      let parts = take-add 8 (8 * n) (drop (130 + 8 * i) state) in
-      cc
-
-  pub same_tail : is_state state ≡ true → tallies_bytes (tallies_from state 0 14) ≡ drop 130 state
-  unfolding is_state
-  same_tail e =
-      let n : length state ≡ 242 = eqb-true (length state) 242 (each _ e).0 in
-      tallies_bytes_lem 14 0 (omega (arith, n)) ∙ take_all 112 (drop 130 state) (omega (arith, length-drop 130 state, n))
 
 -- ---- writing a record
 
@@ -143,7 +127,7 @@ slots_size [] = refl
 slots_size (slot ∷ slots) = length-append (slot_bytes slot) (slots_bytes slots) ∙ omega (arith, eight slot, slots_size slots)
 
 -- some bytes in the middle are replaced by as many others
-pub replaced : (p t b u : List ℕ) (n : ℕ) → length p ≡ n → length t ≡ length u → copied (p ++ (t ++ b)) n u ≡ p ++ (u ++ b)
+replaced : (p t b u : List ℕ) (n : ℕ) → length p ≡ n → length t ≡ length u → copied (p ++ (t ++ b)) n u ≡ p ++ (u ++ b)
 unfolding written
 replaced p t b u n l m =
     let before = take_at p (t ++ b) n l in
@@ -223,9 +207,9 @@ module _ (state codes : List ℕ) where
   -- the bytes are no state
   pub tested_none : is_state state ≡ false → length codes ≡ 16 → Tested state false codes
   tested_none e l =
-      record { told = sym (not_tested state e); same = λ t. false_not (sym e ∙ t); tail = λ t. false_not (sym e ∙ t); theirs = λ t. false_not t; sixteen = l }
+      record { told = sym (not_tested state e); same = λ t. false_not (sym e ∙ t); theirs = λ t. false_not t; sixteen = l }
 
-  module _ (bytes : (k : ℕ) → get_or state k 0 < 256) (n : length state ≡ 242) (f : other_end state ≡ false) (format : Format) (ef : format ≡ format_at state) (ec : codes ≡ record_codes state 0 16) where
+  module _ (bytes : (k : ℕ) → get_or state k 0 < 256) (n : length state ≡ 130) (f : other_end state ≡ false) (format : Format) (ef : format ≡ format_at state) (ec : codes ≡ record_codes state 0 16) where
     size : length codes ≡ 16
     size = ap length ec ∙ codes_length state 0 16
 
@@ -235,7 +219,6 @@ module _ (state codes : List ℕ) where
         record {
           told = sym (not_good state n f (ap (λ (format : Format). records_good format state 0 16) (sym ef) ∙ sym e));
           same = same_bytes state bytes;
-          tail = same_tail state bytes;
           theirs = λ t. false_not t;
           sixteen = size;
         }
@@ -247,7 +230,6 @@ module _ (state codes : List ℕ) where
         record {
           told = ap not (h ∙ ap clashing ec) ∙ good-tested state n f good;
           same = same_bytes state bytes;
-          tail = same_tail state bytes;
           theirs = λ t. ec ∙ its-codes state n f good;
           sixteen = size;
         }

@@ -3,19 +3,19 @@ use Prim.Native.Nat.{ℕ, ◌+◌, ◌*◌, ◌≤◌, ◌<◌}
 use native.Mathlib.Omega.{arith}
 use mathlib.Core.Path.{◌≡◌, refl, ◌∙◌, sym, ap}
 use mathlib.Core.Logic.{◌≢◌}
-use mathlib.Core.Bool.{Bool, true, false, cond, ◌&&◌, false≢true}
-use mathlib.Core.List.{List, ◌++◌}
-use lib.Dec.{eqb}
-use lib.ListN.{length, drop}
+use mathlib.Core.Bool.{Bool, true, false, cond, not, ◌&&◌, false≢true}
+use mathlib.Core.List.{List}
+use lib.Dec.{eqb, leb}
+use lib.ListN.{length, set}
 use borrow.Author.Tests.{eq-eqb, eqb-true, le-leb}
 use Rattle.copying.specs.Copy.{copied}
 use Rattle.format.specs.declared.Format.{Format}
 use Rattle.format.specs.declared.Refusal.{Refusal}
 use Rattle.format.specs.declared.Refusal.TheVariants as refusal
-use Rattle.format.specs.Refusals.{value, refused, number, checked_then}
+use Rattle.format.specs.Refusals.{Result, value, refused, number, checked_then}
 use Rattle.format.specs.Tests.{all_true}
 use Rattle.format.proofs.Tests.{each}
-use Rattle.frame.specs.Judge.{Judged, judge}
+use Rattle.frame.specs.Judge.{Frame, Judged, judge}
 use Rattle.stream.specs.declared.Answer.{Answer}
 use Rattle.stream.specs.declared.Answer.TheVariants.{Refused, Filtered}
 use Rattle.stream.specs.declared.Progress.{Progress}
@@ -25,21 +25,23 @@ use Rattle.slot.specs.declared.Key.{Key}
 use Rattle.slot.specs.declared.Occupancy.{Occupancy}
 use Rattle.slot.specs.declared.Occupancy.TheVariants.{Closed, Open}
 use Rattle.slot.specs.declared.Slot.{Slot}
-use Rattle.slot.specs.Slots.{closed_slot, open_slot, slot_at, open_with, has_key, place}
+use Rattle.slot.specs.Slots.{closed_slot, open_slot, slot_at, same_key, open_with, has_key, place}
 use Rattle.slot.specs.Sound.{key_in_range, slots_sound, sound}
 use Rattle.slot.specs.Codes.{key_code, codes_from, is}
 use Rattle.slot.proofs.Keys.{same_key_lem}
 use Rattle.slot.proofs.Places.{place_holds}
 use Rattle.slot.proofs.CodeLaws.{find_key}
-use Rattle.station.specs.Stations.{bank_with, sound_bank, area, with_area}
+use Rattle.station.specs.declared.Station.{Station}
+use Rattle.station.specs.declared.Turn.{Turn}
+use Rattle.station.specs.Stations.{station_of, sound_station, area, with_area}
 use Rattle.station.specs.Receive as receiving
-use Rattle.station.specs.Receive.{After, key_of, progress_of}
+use Rattle.station.specs.Receive.{After, key_of, progress_of, after_turn}
 use Rattle.station.specs.Parts.{refused_as, Steps}
-use Rattle.station.proofs.Turning.{names_none, unmoved, turn_of, at_store, at_field, at-image, at_none, at_slot}
+use Rattle.station.proofs.Turning.{Leaves, names_none, unmoved, turn_of, at_store, at_field, at-image, at_none, at_slot}
 use Rattle.words.specs.Words.{word_bytes, word_at}
-use Rattle.station_bytes.specs.States.{end_bytes, format_at, progress_number, progress_from, key_in, first_of, slots_from, tallies_bytes, tallies_from, bank_in, is_state}
-use Rattle.station_bytes.specs.Calls.{bytes_after}
-use Rattle.station_bytes.specs.Parts.{with_bank_in, in_bank_of, bank_receive_in, Tested, StepsIn}
+use Rattle.station_bytes.specs.States.{end_bytes, format_at, progress_number, progress_from, key_in, first_of, slot_in, slots_from, slots_bytes, state_bytes, station_in, is_state}
+use Rattle.station_bytes.specs.Calls.{BytesAfter, in_bytes, receive_in, bytes_after}
+use Rattle.station_bytes.specs.Parts.{Tested, StepsIn}
 use Rattle.station_bytes.proofs.Scans.{slots_length}
 use Rattle.station_bytes.proofs.Bytes.{put_second}
 use Rattle.station_bytes.proofs.Places.{slot_is}
@@ -48,27 +50,26 @@ use Rattle.station_bytes.proofs.Places.{slot_is}
 
 pub record Sound (state codes : List ℕ) : Type 0 where
   pub is : is_state state ≡ true
-  pub ok : sound_bank (bank_in state) ≡ true
-  pub same : with_bank_in state (bank_in state) ≡ state
-  pub tail : tallies_bytes (tallies_from state 0 14) ≡ drop 130 state
+  pub ok : sound_station (station_in state) ≡ true
+  pub same : state_bytes (station_in state) ≡ state
   pub theirs : codes ≡ codes_from (slots_from (format_at state) state 0 16) 0
 
 pub sound_of : (state codes : List ℕ) (r : Bool) → Tested state r codes → r ≡ true → Sound state codes
 sound_of state codes r t e =
     let both = each _ (sym t.told ∙ e) in
-    record { is = both.0; ok = both.1.0; same = t.same both.0; tail = t.tail both.0; theirs = t.theirs e }
+    record { is = both.0; ok = both.1.0; same = t.same both.0; theirs = t.theirs e }
 
-pub unsound : (state codes : List ℕ) (r : Bool) → Tested state r codes → r ≡ false → is_state state ≡ true → sound_bank (bank_in state) ≡ false
+pub unsound : (state codes : List ℕ) (r : Bool) → Tested state r codes → r ≡ false → is_state state ≡ true → sound_station (station_in state) ≡ false
 unfolding all_true
-unsound state codes r t e i = go (is_state state) (sound_bank (bank_in state)) i (sym t.told ∙ e)
+unsound state codes r t e i = go (is_state state) (sound_station (station_in state)) i (sym t.told ∙ e)
   where
     go : (a b : Bool) → a ≡ true → ((true && a) && b) ≡ false → b ≡ false
     go true b i e = e
     go false b i e = absurd (false≢true i)
 
-pub state_size : (state codes : List ℕ) → Sound state codes → length state ≡ 242
+pub state_size : (state codes : List ℕ) → Sound state codes → length state ≡ 130
 unfolding is_state
-state_size state codes s = eqb-true (length state) 242 (each _ s.is).0
+state_size state codes s = eqb-true (length state) 130 (each _ s.is).0
 
 -- ---- an open slot
 
@@ -86,13 +87,13 @@ first_in (Open stream) key e = ap key_code (sym (same_key_lem stream.key key e))
 
 -- the bytes are no sound station's
 pub receive_state : (state codes : List ℕ) (r : Bool) → Tested state r codes → r ≡ false → (store : List ℕ) (bus : ℕ) (image : List ℕ)
-    → bytes_after (Refused refusal.State) state store ≡ bank_receive_in state store bus image
-unfolding bank_receive_in receiving.receive checked_then
+    → bytes_after (Refused refusal.State) state store ≡ receive_in state store bus image
+unfolding receive_in receiving.receive checked_then
 receive_state state codes r t e store bus image = go (is_state state) refl
   where
     go : (b : Bool) → is_state state ≡ b
         → bytes_after (Refused refusal.State) state store
-        ≡ cond b (in_bank_of state (receiving.receive (bank_in state) store bus image)) (record { answer = refused (number refusal.State); state = state; store = store })
+        ≡ cond b (in_bytes (receiving.receive (station_in state) store bus image)) (record { answer = refused (number refusal.State); state = state; store = store })
     go false i = refl
     go true i =
         rw (unsound state codes r t e i)
@@ -117,24 +118,24 @@ module _ (state codes : List ℕ) (s : Sound state codes) where
   key_place key i e = sym (e ∙ find_key format slots key codes each_sound s.theirs)
 
   module _ (store : List ℕ) (bus : ℕ) (image : List ℕ) where
-    as-bank : (after : After) → after ≡ receiving.receive (bank_in state) store bus image → in_bank_of state after ≡ bank_receive_in state store bus image
-    unfolding bank_receive_in
-    as-bank after e = rw s.is (ap (in_bank_of state) e)
+    as-station : (after : After) → after ≡ receiving.receive (station_in state) store bus image → in_bytes after ≡ receive_in state store bus image
+    unfolding receive_in
+    as-station after e = rw s.is (ap in_bytes e)
 
     -- no slot changes
-    kept : (answer : Answer) → unmoved format slots store bus image (names_none slots sixteen) answer ≡ receiving.receive (bank_in state) store bus image
-        → bytes_after answer state store ≡ bank_receive_in state store bus image
+    kept : (answer : Answer) → unmoved format slots store bus image (names_none slots sixteen) answer ≡ receiving.receive (station_in state) store bus image
+        → bytes_after answer state store ≡ receive_in state store bus image
     kept answer e =
         let l = names_none slots sixteen in
         ap (λ (bytes : List ℕ). record { answer = meaning answer; state = bytes; store = store })
-        (sym s.same ∙ ap (λ (slots : List Slot). with_bank_in state (bank_with format slots)) (sym l.kept))
-        ∙ as-bank _ e
+        (sym s.same ∙ ap (λ (slots : List Slot). state_bytes (station_of format slots)) (sym l.kept))
+        ∙ as-station _ e
 
-    pub receive-store : length store ≢ 32768 → bytes_after (Refused refusal.Store) state store ≡ bank_receive_in state store bus image
+    pub receive-store : length store ≢ 32768 → bytes_after (Refused refusal.Store) state store ≡ receive_in state store bus image
     receive-store w = kept (Refused refusal.Store) (at_store format slots store bus image (names_none slots sixteen) s.ok w)
 
     module _ (w : length store ≡ 32768) where
-      pub receive-field : 1 < bus → bytes_after (Refused refusal.Field) state store ≡ bank_receive_in state store bus image
+      pub receive-field : 1 < bus → bytes_after (Refused refusal.Field) state store ≡ receive_in state store bus image
       receive-field b = kept (Refused refusal.Field) (at_field format slots store bus image (names_none slots sixteen) s.ok w b)
 
       module _ (b : bus ≤ 1) where
@@ -142,14 +143,14 @@ module _ (state codes : List ℕ) (s : Sound state codes) where
         unfolding refused_as
         own_name own = rw (s.ok, eq-eqb (length store) 32768 w, le-leb bus 1 b)
 
-        pub receive-image : (own : Refusal) → refused (number own) ≡ judge format image → bytes_after (Refused own) state store ≡ bank_receive_in state store bus image
+        pub receive-image : (own : Refusal) → refused (number own) ≡ judge format image → bytes_after (Refused own) state store ≡ receive_in state store bus image
         receive-image own e =
             let l = names_none slots sixteen in
             kept (Refused own)
             (ap (λ (name : Refusal). unmoved format slots store bus image l (Refused name)) (sym (own_name own)) ∙ at-image format slots store bus image l own e)
 
         module _ (judged : Judged) (e : value judged ≡ judge format image) (i : ℕ) (p : place (has_key (key_of bus judged.frame)) slots ≡ i) where
-          pub receive-none : 16 ≤ i → bytes_after Filtered state store ≡ bank_receive_in state store bus image
+          pub receive-none : 16 ≤ i → bytes_after Filtered state store ≡ receive_in state store bus image
           receive-none h = kept Filtered (at_none format slots store bus image (names_none slots sixteen) s.ok w b judged e i p h)
 
           -- the slot of the key steps
@@ -173,7 +174,7 @@ module _ (state codes : List ℕ) (s : Sound state codes) where
             its-first = first_in (slot_at slots i).occupancy key has-it
 
             pub receive-step : (f : Format) → f ≡ format → (answer : Answer) (lastState lastStore : List ℕ) → StepsIn f i judged.frame state store answer lastState lastStore
-                → bytes_after answer lastState lastStore ≡ bank_receive_in state store bus image
+                → bytes_after answer lastState lastStore ≡ receive_in state store bus image
             unfolding key
             receive-step f ef answer lastState lastStore u =
                 let t : StepsIn format i judged.frame state store answer lastState lastStore = rw ef at u in
@@ -190,6 +191,6 @@ module _ (state codes : List ℕ) (s : Sound state codes) where
                 } in
                 let bytes = t.state'
                 ∙ ap (λ (l : List ℕ). copied l (8 * i + 4) (word_bytes (progress_number (step format before (area store i) frame).progress))) (sym s.same)
-                ∙ put_second slots i (omega (arith, sixteen, h)) (end_bytes format ++ drop 130 state) after its-first in
+                ∙ put_second slots i (omega (arith, sixteen, h)) (end_bytes format) after its-first in
                 ap (λ (l : List ℕ). record { answer = meaning answer; state = l; store = lastStore }) bytes
-                ∙ as-bank _ (at_slot format slots store bus image s.ok w b judged e i p h turn lastStore steps)
+                ∙ as-station _ (at_slot format slots store bus image s.ok w b judged e i p h turn lastStore steps)

@@ -1,9 +1,9 @@
 -- One slot of a state: whether it is closed, what it is, and the step of its stream.
-use Prim.Native.Nat.{ℕ, ◌+◌, ◌-◌, ◌*◌, ◌≤◌, ◌<◌}
+use Prim.Native.Nat.{ℕ, zero, suc, ◌+◌, ◌-◌, ◌*◌, ◌≤◌, ◌<◌}
 use native.Mathlib.Omega.{arith}
-use mathlib.Core.Path.{◌≡◌, refl, ◌∙◌, ap}
+use mathlib.Core.Path.{◌≡◌, refl, ◌∙◌, sym, ap}
 use mathlib.Core.Bool.{Bool, true, false, cond}
-use mathlib.Core.List.{List}
+use mathlib.Core.List.{List, [], ◌∷◌, ◌++◌}
 use lib.Dec.{eqb}
 use lib.ListN.{length, set, drop, replicate}
 use borrow.Rule.Slice.PartMut.{put_mid}
@@ -19,14 +19,14 @@ use Rattle.slot.proofs.Places as places
 use Rattle.station.specs.Stations.{new_station, area}
 use Rattle.station.specs.Receive.{key_of, progress_of}
 use Rattle.station.proofs.Turning.{steps}
-use Rattle.words.specs.Words.{word_bytes, word_at, long_bytes}
+use Rattle.words.specs.Words.{word_bytes, word_at}
 use Rattle.station_bytes.specs.States.{format_number, layout_number, key_in, progress_from, progress_number, slot_in, slots_from, state_bytes}
 use Rattle.station_bytes.specs.Parts.{StepsIn}
 use Rattle.station_bytes.proofs.Scans.{slot_at_lem, slots_length}
 
 -- the bytes of a new station
-pub new_bytes : (format : Format) → set (set (replicate 242 0) 128 (format_number format)) 129 layout_number ≡ state_bytes (new_station format)
-unfolding word_bytes long_bytes
+pub new_bytes : (format : Format) → set (set (replicate 130 0) 128 (format_number format)) 129 layout_number ≡ state_bytes (new_station format)
+unfolding word_bytes
 new_bytes Extended = refl
 new_bytes Standard = refl
 

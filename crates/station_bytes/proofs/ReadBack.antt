@@ -29,22 +29,17 @@ use Rattle.slot.specs.declared.Slot.{Slot}
 use Rattle.slot.specs.Sound.{key_in_range, fits, slot_sound, slots_sound, sound}
 use Rattle.slot.specs.Codes.{key_code}
 use Rattle.station.specs.declared.Station.{Station}
-use Rattle.station.specs.Stations.{Bank, bank_of, bank_with, station_with, sound_bank, sound_station}
-use Rattle.station.specs.Receive.{station_receive}
-use Rattle.station.proofs.Tallying.{unsound_station, unsound_bank}
-use Rattle.station.proofs.TalliedRuns.{sound_parts}
+use Rattle.station.specs.Stations.{station_of, sound_station}
 use Rattle.stream.specs.Step.{held}
 use Rattle.station.specs.Read.{reading}
 use Rattle.words.specs.Words.{word_bytes, word_at}
 use Rattle.words.proofs.Laws.{read_after, four}
-use Rattle.station_bytes.specs.States.{layout_number, format_number, end_bytes, format_in, format_at, progress_number, progress_from, key_in, first_of, second_of, slot_bytes, slots_bytes, tallies_bytes, tallies_from, state_bytes, slot_in, slots_from, slot_written, slots_written, bank_in, station_in, is_state}
-use Rattle.station_bytes.specs.Calls.{in_bytes, receive_in, read_in}
+use Rattle.station_bytes.specs.States.{layout_number, format_number, end_bytes, format_in, format_at, progress_number, progress_from, key_in, first_of, second_of, slot_bytes, slots_bytes, state_bytes, slot_in, slots_from, slot_written, slots_written, station_in, is_state}
+use Rattle.station_bytes.specs.Calls.{read_in}
 use Rattle.station_bytes.specs.Parts.{Tested}
-use Rattle.station_bytes.specs.Claims.{are_long, storable, ReadBack, WrittenBack, NotWritten}
-use Rattle.station_bytes.proofs.Bytes.{same_bytes, same_tail, eight, slots_size}
-use Rattle.station_bytes.proofs.Tallies.{tallies_length, tallies_size, tallies_back, are_long_lem}
-use Rattle.station_bytes.proofs.Receiving.{whole}
-use Rattle.station_bytes.proofs.Asking.{tally_state}
+use Rattle.station_bytes.specs.Claims.{ReadBack, WrittenBack, NotWritten}
+use Rattle.station_bytes.proofs.Bytes.{same_bytes, eight, slots_size}
+use Rattle.station_bytes.proofs.Calling.{receive_state}
 use Rattle.station_bytes.proofs.Handing.{open_state, close_state}
 
 -- ---- keys
@@ -216,97 +211,46 @@ format_small : (format : Format) → leb (format_number format) 1 ≡ true
 format_small Extended = refl
 format_small Standard = refl
 
--- the two bytes behind the slots, and the tallies behind them
-module _ (station : Station) (s : storable station ≡ true) where
-  abbrev bank : Bank
-  bank = bank_of station
-
-  abbrev tail : List ℕ
-  tail = end_bytes bank.format ++ tallies_bytes station.tallies
-
-  abbrev state : List ℕ
-  state = state_bytes station
-
-  sound_whole : sound_station station ≡ true
-  sound_whole = (each _ s).0
-
-  pub long : are_long station.tallies ≡ true
-  long = (each _ s).1.0
-
-  ok : sound_bank bank ≡ true
-  ok = (sound_parts station sound_whole).0
-
-  fourteen : length station.tallies ≡ 14
-  fourteen = (sound_parts station sound_whole).1
-
-  sixteen : length bank.slots ≡ 16
-  unfolding sound
-  sixteen = eqb-true (length bank.slots) 16 (each _ ok).0
-
-  slots_are : length (slots_bytes bank.slots) ≡ 128
-  slots_are = slots_size bank.slots ∙ omega (arith, sixteen)
-
-  size : length state ≡ 242
-  size =
-      let t : length (tallies_bytes station.tallies) ≡ 112 = tallies_size station.tallies ∙ omega (arith, fourteen) in
-      length-append (slots_bytes bank.slots) tail ∙ omega (arith, slots_are, t)
-
-  behind : (k : ℕ) → get_or state (128 + k) 0 ≡ get_or tail k 0
-  behind k = ap (λ (n : ℕ). get_or state (n + k) 0) (sym slots_are) ∙ get_or-append-add (slots_bytes bank.slots) tail k 0
-
-  same : format_at state ≡ bank.format
-  same = ap format_in (behind 0) ∙ format_read bank.format
-
-  slots_back : Records bank.format state 0 bank.slots
-  unfolding sound
-  slots_back = records_back bank.format state tail bank.slots 0 [] refl refl (each _ ok).1.0
-
-  bank_back : bank_in state ≡ bank
-  bank_back =
-      ap (λ (f : Format). bank_with f (slots_from f state 0 16)) same
-      ∙ ap (bank_with bank.format) (ap (slots_from bank.format state 0) (sym sixteen) ∙ slots_back.slots')
-
-  is_state : is_state state ≡ true
-  unfolding is_state
-  is_state =
-      from_each _ (
-        eq-eqb (length state) 242 size,
-        (
-          ap (λ (n : ℕ). leb n 1) (behind 0) ∙ format_small bank.format,
-          (
-            eq-eqb (get_or state 129 0) layout_number (behind 1),
-            (
-              ap (λ (f : Format). slots_written f state 0 16) same ∙ ap (slots_written bank.format state 0) (sym sixteen) ∙ slots_back.written,
-              tt,
-            ),
-          ),
-        ),
-      )
-
-  back : station_in state ≡ station
-  back = λ k. station_with (bank_back k) (tallies_back bank slots_are station.tallies fourteen long k)
-
 pub read_back : ReadBack
-unfolding ReadBack
-read_back station s = (is_state station s, back station s)
+unfolding ReadBack sound is_state
+read_back station s =
+    let t = each _ s in
+    let slots = station.slots in
+    let format = station.format in
+    let state = state_bytes station in
+    let sixteen : length slots ≡ 16 = eqb-true (length slots) 16 t.0 in
+    let all-size : length (slots_bytes slots) ≡ 128 = slots_size slots ∙ omega arith in
+    let size : length state ≡ 130 = length-append (slots_bytes slots) (end_bytes format) ∙ omega arith in
+    let behind : (k : ℕ) → get_or state (128 + k) 0 ≡ get_or (end_bytes format) k 0 =
+    λ k. ap (λ (n : ℕ). get_or state (n + k) 0) (sym all-size) ∙ get_or-append-add (slots_bytes slots) (end_bytes format) k 0 in
+    let same : format_at state ≡ format = ap format_in (behind 0) ∙ format_read format in
+    let r = records_back format state (end_bytes format) slots 0 [] refl refl t.1.0 in
+    let slots_read : slots_from format state 0 16 ≡ slots = ap (slots_from format state 0) (sym sixteen) ∙ r.slots' in
+    let slots-are : slots_written format state 0 16 ≡ true = ap (slots_written format state 0) (sym sixteen) ∙ r.written in (
+      from_each _ (
+        eq-eqb (length state) 130 size,
+        (
+          ap (λ (n : ℕ). leb n 1) (behind 0) ∙ format_small format,
+          (eq-eqb (get_or state 129 0) layout_number (behind 1), (ap (λ (f : Format). slots_written f state 0 16) same ∙ slots-are, tt)),
+        ),
+      ),
+      ap (λ (f : Format). station_of f (slots_from f state 0 16)) same ∙ ap (station_of format) slots_read,
+    )
 
 pub written_back : WrittenBack
 unfolding WrittenBack
-written_back state bytes e = whole state [] 0 [] bytes e
+written_back state bytes e = same_bytes state bytes e
 
 -- ---- bytes that no sound station writes
 
-module _ (state : List ℕ) (bytes : Bytes state) (none : (station : Station) → storable station ≡ true → state_bytes station ≢ state) where
+module _ (state : List ℕ) (bytes : Bytes state) (none : (station : Station) → sound_station station ≡ true → state_bytes station ≢ state) where
   -- if they are a state's, that of a station that is not sound
-  unsound : is_state state ≡ true → sound_bank (bank_in state) ≡ false
-  unsound e = go (sound_bank (bank_in state)) refl
+  unsound : is_state state ≡ true → sound_station (station_in state) ≡ false
+  unsound e = go (sound_station (station_in state)) refl
     where
-      go : (b : Bool) → sound_bank (bank_in state) ≡ b → b ≡ false
+      go : (b : Bool) → sound_station (station_in state) ≡ b → b ≡ false
       go false s = refl
-      go true s =
-          let sound : sound_station (station_in state) ≡ true = from_each _ (s, (eq-eqb _ 14 (tallies_length state 14 0), tt)) in
-          let held : storable (station_in state) ≡ true = from_each _ (sound, (are_long_lem state bytes 14 0, tt)) in
-          absurd (none (station_in state) held (whole state [] 0 [] bytes e))
+      go true s = absurd (none (station_in state) s (same_bytes state bytes e))
 
   tested : Tested state false (replicate 16 0)
   unfolding all_true
@@ -314,41 +258,26 @@ module _ (state : List ℕ) (bytes : Bytes state) (none : (station : Station) �
       record {
         told = go (is_state state) refl;
         same = same_bytes state bytes;
-        tail = same_tail state bytes;
         theirs = λ e. absurd (false≢true e);
         sixteen = refl;
       }
     where
-      go : (b : Bool) → is_state state ≡ b → false ≡ all_true (b ∷ sound_bank (bank_in state) ∷ [])
+      go : (b : Bool) → is_state state ≡ b → false ≡ all_true (b ∷ sound_station (station_in state) ∷ [])
       go false e = refl
       go true e = sym (unsound e)
-
-  receives : (store : List ℕ) (bus : ℕ) (image : List ℕ)
-      → receive_in state store bus image ≡ record { answer = refused (number State); state = state; store = store }
-  unfolding receive_in
-  receives store bus image = go (is_state state) refl
-    where
-      go : (b : Bool) → is_state state ≡ b
-          → cond b (in_bytes (station_receive (station_in state) store bus image)) (record { answer = refused (number State); state = state; store = store })
-          ≡ record { answer = refused (number State); state = state; store = store }
-      go false e = refl
-      go true e =
-          ap in_bytes (sym (unsound_station (station_in state) store bus image (unsound_bank (bank_in state) (tallies_from state 0 14) (unsound e))))
-          ∙ ap (λ (x : List ℕ). record { answer = refused (number State); state = x; store = store }) (whole state [] 0 [] bytes e)
 
 pub not_written : NotWritten
 unfolding NotWritten read_in reading guarded
 not_written state bytes none =
     let t = tested state bytes none in
     record {
-      receives = receives state bytes none;
+      receives = λ store bus image. sym (receive_state state _ false t refl store bus image);
       opens = λ key. sym (open_state state _ false t refl key);
       closes = λ i. sym (close_state state _ false t refl i);
       reads = λ store i. go store i (is_state state) refl;
-      tallies = λ i. tally_state state _ false t refl i;
     }
   where
     go : (store : List ℕ) (i : ℕ) (b : Bool) → is_state state ≡ b
-        → cond b (reading (bank_in state) store i) (refused (number State)) ≡ refused (number State)
+        → cond b (reading (station_in state) store i) (refused (number State)) ≡ refused (number State)
     go store i false e = refl
     go store i true e = rw (unsound state bytes none e) refl

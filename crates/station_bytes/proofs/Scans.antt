@@ -13,14 +13,14 @@ use Rattle.format.specs.Tests.{all_true}
 use Rattle.format.proofs.Tests.{each}
 use mathlib.Core.Logic.{◌≢◌}
 use Rattle.slot.specs.declared.Slot.{Slot}
-use Rattle.slot.specs.Slots.{slot_at}
+use Rattle.slot.specs.Slots.{closed_slot, slot_at}
 use Rattle.slot.specs.Sound.{slot_sound, slots_sound, keys_differ, sound}
-use Rattle.slot.specs.Codes.{codes_from, clashing}
+use Rattle.slot.specs.Codes.{codes_from, slot_code, clashing}
 use Rattle.slot.proofs.CodeLaws.{sound_codes}
 use Rattle.slot.proofs.Rows.{row_next, row_full}
-use Rattle.station.specs.Stations.{sound_bank}
+use Rattle.station.specs.Stations.{sound_station}
 use Rattle.words.specs.Words.{word_at}
-use Rattle.station_bytes.specs.States.{layout_number, format_at, slot_in, slots_from, slot_written, slots_written, bank_in, is_state}
+use Rattle.station_bytes.specs.States.{layout_number, format_at, slot_in, slots_from, slot_written, slots_written, station_in, is_state}
 use Rattle.station_bytes.specs.Parts.{key_fits, progress_fits, record_good, records_good, record_code, record_codes}
 use Rattle.station_bytes.proofs.Records.{tidy_open, record_good_lem, record_code_lem}
 
@@ -120,15 +120,15 @@ module _ (state : List ℕ) where
   slots = slots_from (format_at state) state 0 16
 
   abbrev tested : Bool
-  tested = all_true (is_state state ∷ sound_bank (bank_in state) ∷ [])
+  tested = all_true (is_state state ∷ sound_station (station_in state) ∷ [])
 
   none_after : (b : Bool) → is_state state ≡ false → all_true (is_state state ∷ b ∷ []) ≡ false
   unfolding all_true
   none_after b e = rw e
 
-  pub not_length : length state ≢ 242 → is_state state ≡ false
+  pub not_length : length state ≢ 130 → is_state state ≡ false
   unfolding is_state all_true
-  not_length h = rw (ne_eqb (length state) 242 h)
+  not_length h = rw (ne_eqb (length state) 130 h)
 
   -- the two bytes behind the slots are no format and this layout
   abbrev pub other_end : Bool
@@ -136,7 +136,7 @@ module _ (state : List ℕ) where
 
   pub not_end : other_end ≡ true → is_state state ≡ false
   unfolding is_state all_true
-  not_end e = rw at_most (go (eqb (length state) 242) (ltb 1 (get_or state 128 0)) (eqb (get_or state 129 0) layout_number) e)
+  not_end e = rw at_most (go (eqb (length state) 130) (ltb 1 (get_or state 128 0)) (eqb (get_or state 129 0) layout_number) e)
     where
       go : (n f l : Bool) → (f || not l) ≡ true → (((n && not f) && l) && slots_written (format_at state) state 0 16) ≡ false
       go false f l e = refl
@@ -145,12 +145,12 @@ module _ (state : List ℕ) where
       go true false false e = refl
 
   pub not_tested : is_state state ≡ false → tested ≡ false
-  not_tested e = none_after (sound_bank (bank_in state)) e
+  not_tested e = none_after (sound_station (station_in state)) e
 
-  module _ (n : length state ≡ 242) (f : other_end ≡ false) where
+  module _ (n : length state ≡ 130) (f : other_end ≡ false) where
     is_written : is_state state ≡ slots_written (format_at state) state 0 16
     unfolding is_state all_true
-    is_written = rw (eq-eqb (length state) 242 n, at_most) (go (ltb 1 (get_or state 128 0)) (eqb (get_or state 129 0) layout_number) f)
+    is_written = rw (eq-eqb (length state) 130 n, at_most) (go (ltb 1 (get_or state 128 0)) (eqb (get_or state 129 0) layout_number) f)
       where
         go : (f l : Bool) → (f || not l) ≡ false → ((not f && l) && slots_written (format_at state) state 0 16) ≡ slots_written (format_at state) state 0 16
         go true l e = absurd (false≢true (sym e))

@@ -1,39 +1,29 @@
 -- What is promised of a station in lent bytes. `ReadBack`, `WrittenBack` and `NotWritten` are of the bytes; `AsFirst`, `StaySound` and
 -- `RefusedKeeps` of one call; `AsRun`, `Demand3OnBytes`, `RoundTripOnBytes` and `ReadAtEnd` of calls one after the other. Proofs:
 -- proofs/ReadBack.antt (the bytes) and proofs/Runs.antt (the calls).
-use Rattle.std.specs.Prelude.{ℕ, ◌≡◌, ◌≢◌, Bool, true, cond, ◌&&◌, List, [], ◌∷◌, ltb, length, get_or}
+use Rattle.std.specs.Prelude.{ℕ, ◌≡◌, ◌≢◌, true, cond, ◌||◌, List, [], ◌∷◌, eqb, length}
 use Rattle.format.specs.declared.Format.{Format}
-use Rattle.format.specs.declared.Refusal.TheVariants.{State, Index}
-use Rattle.format.specs.Refusals.{refused, number, check, guarded}
-use Rattle.format.specs.Tests.{all_true}
-use Rattle.frame.specs.Calls.{Call}
+use Rattle.format.specs.declared.Refusal.TheVariants.{Step, Long, State}
+use Rattle.format.specs.Refusals.{refused, number}
 use Rattle.frame.specs.Claims.{Bytes}
 use Rattle.slot.specs.declared.Key.{Key}
-use Rattle.tally.specs.Tallies.{raised, was_judged}
 use Rattle.station.specs.declared.Station.{Station}
-use Rattle.station.specs.Stations.{bank_of, station_with, sound_station, full_size}
-use Rattle.station.specs.Receive.{station_receive, station_concerned}
-use Rattle.station.specs.Open.{station_open, station_close}
+use Rattle.station.specs.Stations.{sound_station, full_size}
+use Rattle.station.specs.Receive.{receive, concerned}
+use Rattle.station.specs.Open.{opening, closing}
 use Rattle.station.specs.Read.{reading}
-use Rattle.station.specs.Run.{StationRan, station_run}
-use Rattle.station.specs.Demands.{Demand3From, RoundTripFrom, Unfilled, left_by}
-use Rattle.station_bytes.specs.States.{state_bytes, bank_in, station_in, is_state}
-use Rattle.station_bytes.specs.Calls.{BytesAfter, in_bytes, receive_in, as_state, not_state, renewed, open_in, close_in, read_in, tally_in}
+use Rattle.station.specs.Run.{Call, Ran, run}
+use Rattle.station.specs.Demands.{Demand3From, RoundTripFrom, left_by}
+use Rattle.station_bytes.specs.States.{state_bytes, station_in, is_state}
+use Rattle.station_bytes.specs.Calls.{BytesAfter, in_bytes, receive_in, as_state, not_state, renewed, open_in, close_in, read_in}
 
 -- ---- the bytes
-
--- numbers of 64 bits, as the tallies of the code are
-unfoldable pub are_long : List ℕ → Bool
-are_long [] = true
-are_long (n ∷ ns) = ltb n 18446744073709551616 && are_long ns
-
-abbrev pub storable : Station → Bool
-storable station = all_true (sound_station station ∷ are_long station.tallies ∷ [])
 
 -- the bytes of a sound station are a state's, and read back they are that station
 unfoldable pub ReadBack : Type 0
 ReadBack =
-    (station : Station) → storable station ≡ true → (is_state (state_bytes station) ≡ true) × (station_in (state_bytes station) ≡ station)
+    (station : Station)
+    → sound_station station ≡ true → (is_state (state_bytes station) ≡ true) × (station_in (state_bytes station) ≡ station)
 
 -- bytes that are a state's are those that the station read from them writes
 unfoldable pub WrittenBack : Type 0
@@ -46,53 +36,48 @@ pub record Refuses (state : List ℕ) : Type 0 where
   pub opens : (key : Key) → open_in state key ≡ not_state state
   pub closes : (i : ℕ) → close_in state i ≡ not_state state
   pub reads : (store : List ℕ) (i : ℕ) → read_in state store i ≡ refused (number State)
-  pub tallies : (i : ℕ) → tally_in state i ≡ refused (number State)
 
 -- so it is of bytes that no sound station writes
 unfoldable pub NotWritten : Type 0
 NotWritten =
-    (state : List ℕ) → Bytes state → ((station : Station) → storable station ≡ true → state_bytes station ≢ state) → Refuses state
+    (state : List ℕ) → Bytes state → ((station : Station) → sound_station station ≡ true → state_bytes station ≢ state) → Refuses state
 
 -- ---- one call
 
 -- on a station's bytes each call gives what the station's own gives
 pub record SameAs (station : Station) : Type 0 where
   pub receives : (store : List ℕ) (bus : ℕ) (image : List ℕ)
-      → receive_in (state_bytes station) store bus image ≡ in_bytes (station_receive station store bus image)
-  pub opens : (key : Key) → open_in (state_bytes station) key ≡ as_state (station_open station key)
-  pub closes : (i : ℕ) → close_in (state_bytes station) i ≡ as_state (station_close station i)
-  pub reads : (store : List ℕ) (i : ℕ) → read_in (state_bytes station) store i ≡ reading (bank_of station) store i
-  pub tallies : (i : ℕ) → tally_in (state_bytes station) i ≡ guarded (check Index (ltb i 14) ∷ []) (get_or station.tallies i 0)
+      → receive_in (state_bytes station) store bus image ≡ in_bytes (receive station store bus image)
+  pub opens : (key : Key) → open_in (state_bytes station) key ≡ as_state (opening station key)
+  pub closes : (i : ℕ) → close_in (state_bytes station) i ≡ as_state (closing station i)
+  pub reads : (store : List ℕ) (i : ℕ) → read_in (state_bytes station) store i ≡ reading station store i
 
 -- so it is for every sound station
 unfoldable pub AsFirst : Type 0
-AsFirst = (station : Station) → storable station ≡ true → SameAs station
+AsFirst = (station : Station) → sound_station station ≡ true → SameAs station
 
 -- bytes of a sound station
 abbrev pub AreSound : List ℕ → Type 0
 AreSound state = (is_state state ≡ true) × (sound_station (station_in state) ≡ true)
 
--- such bytes are such bytes again after each call; any 242 bytes are after `new`
+-- such bytes are such bytes again after each call; any 130 bytes are after `new`
 pub record StaySound : Type 0 where
-  pub receives : (station : Station) → storable station ≡ true → (store : List ℕ) (bus : ℕ) (image : List ℕ)
+  pub receives : (station : Station) → sound_station station ≡ true → (store : List ℕ) (bus : ℕ) (image : List ℕ)
       → AreSound (receive_in (state_bytes station) store bus image).state
-  pub opens : (station : Station) → storable station ≡ true → (key : Key) → AreSound (open_in (state_bytes station) key).state
-  pub closes : (station : Station) → storable station ≡ true → (i : ℕ) → AreSound (close_in (state_bytes station) i).state
-  pub new : (state : List ℕ) → length state ≡ 242 → (format : Format) → AreSound (renewed state format).state
+  pub opens : (station : Station) → sound_station station ≡ true → (key : Key) → AreSound (open_in (state_bytes station) key).state
+  pub closes : (station : Station) → sound_station station ≡ true → (i : ℕ) → AreSound (close_in (state_bytes station) i).state
+  pub new : (state : List ℕ) → length state ≡ 130 → (format : Format) → AreSound (renewed state format).state
 
--- "Nothing is written and the state handed back is the one handed in, except the idle slot after 7 and 8", and but for the tally of an
--- image that was judged (document 02, L5): the bytes that a call refused by n leaves, where it concerned slot i
+-- "Nothing is written and the state handed back is the one handed in, except the idle slot after 7 and 8": the bytes that a call refused by
+-- n leaves, where it concerned slot i
 unfoldable pub left_in : (n : ℕ) → List ℕ → (i : ℕ) → List ℕ
-left_in n state i =
-    cond (was_judged (refused n))
-    (state_bytes (station_with (left_by n (bank_in state) i) (raised (refused n) (station_in state).tallies)))
-    state
+left_in n state i = cond (eqb n (number Step) || eqb n (number Long)) (state_bytes (left_by n (station_in state) i)) state
 
 pub record RefusedKeeps : Type 0 where
   pub receives : (state : List ℕ) → Bytes state → (store : List ℕ) (bus : ℕ) (image : List ℕ) (n : ℕ)
       → (receive_in state store bus image).answer ≡ refused n
       → receive_in state store bus image
-      ≡ record { answer = refused n; state = left_in n state (station_concerned (station_in state) store bus image); store = store }
+      ≡ record { answer = refused n; state = left_in n state (concerned (station_in state) store bus image); store = store }
   pub opens : (state : List ℕ) → Bytes state → (key : Key) (n : ℕ) → (open_in state key).answer ≡ refused n → (open_in state key).state ≡ state
   pub closes : (state : List ℕ) → Bytes state → (i n : ℕ) → (close_in state i).answer ≡ refused n → (close_in state i).state ≡ state
   pub renews : (state : List ℕ) (format : Format) (n : ℕ) → (renewed state format).answer ≡ refused n → (renewed state format).state ≡ state
@@ -113,48 +98,44 @@ last_of state [] = state
 last_of state (given ∷ givens) = last_of given.state givens
 
 -- the answers given, and in the end the station read from the bytes, and the store
-unfoldable pub ended : (state store : List ℕ) → List BytesAfter → StationRan
+unfoldable pub ended : (state store : List ℕ) → List BytesAfter → Ran
 ended state store [] = record { answers = []; station = station_in state; store = store }
 ended state store (given ∷ givens) =
-    let rest : StationRan = ended given.state given.store givens in
+    let rest : Ran = ended given.state given.store givens in
     record { answers = given.answer ∷ rest.answers; station = rest.station; store = rest.store }
 
 -- calls on the bytes of a station that end so
-pub record CallsEnd (station : Station) (store : List ℕ) (calls : List Call) (ran : StationRan) : Type 0 where
+pub record CallsEnd (station : Station) (store : List ℕ) (calls : List Call) (ran : Ran) : Type 0 where
   pub givens : List BytesAfter
   pub chained : Chained (state_bytes station) store calls givens
   pub ends : ended (state_bytes station) store givens ≡ ran
 
--- on the bytes of a sound station they end as the run of the station's own `receive` does, tallies included, and the bytes in the end are
--- those of its station
-pub record EndsAsRun (station : Station) (store : List ℕ) (calls : List Call) (ran : StationRan) (end : CallsEnd station store calls ran)
-    : Type 0 where
-  pub same : station_run station store calls ≡ ran
+-- on the bytes of a sound station they end as the run of the station's own `receive` does, and the bytes in the end are those of its
+-- station
+pub record EndsAsRun (station : Station) (store : List ℕ) (calls : List Call) (ran : Ran) (end : CallsEnd station store calls ran) : Type 0 where
+  pub same : run station store calls ≡ ran
   pub last : last_of (state_bytes station) end.givens ≡ state_bytes ran.station
 
 unfoldable pub AsRun : Type 0
 AsRun =
-    (station : Station) (store : List ℕ) → storable station ≡ true
-    → (calls : List Call) (ran : StationRan) (end : CallsEnd station store calls ran)
+    (station : Station) (store : List ℕ) → sound_station station ≡ true
+    → (calls : List Call) (ran : Ran) (end : CallsEnd station store calls ran)
     → EndsAsRun station store calls ran end
 
 -- so demand 3, and the last sentence of demand 2, hold of them, for every sound station and full-size store
 unfoldable pub Demand3OnBytes : Type 0
 Demand3OnBytes =
-    (station : Station) (store : List ℕ) → storable station ≡ true → full_size store ≡ true
-    → Demand3From (bank_of station) store (Unfilled (CallsEnd station store) station store)
+    (station : Station) (store : List ℕ) → sound_station station ≡ true → full_size store ≡ true
+    → Demand3From station store (CallsEnd station store)
 
 unfoldable pub RoundTripOnBytes : Type 0
 RoundTripOnBytes =
-    (station : Station) (store : List ℕ) → storable station ≡ true → full_size store ≡ true
-    → RoundTripFrom (bank_of station) store (Unfilled (CallsEnd station store) station store)
+    (station : Station) (store : List ℕ) → sound_station station ≡ true → full_size store ≡ true
+    → RoundTripFrom station store (CallsEnd station store)
 
--- and what is read of the station in the end is read from the bytes in the end, its tallies too
-pub record ReadAtEnd : Type 0 where
-  pub packets : (station : Station) (store : List ℕ) → storable station ≡ true
-      → (calls : List Call) (ran : StationRan) (end : CallsEnd station store calls ran)
-      → (i : ℕ) → read_in (last_of (state_bytes station) end.givens) ran.store i ≡ reading (bank_of ran.station) ran.store i
-  pub tallies : (station : Station) (store : List ℕ) → storable station ≡ true
-      → (calls : List Call) (ran : StationRan) (end : CallsEnd station store calls ran)
-      → (i : ℕ) → tally_in (last_of (state_bytes station) end.givens) i
-      ≡ guarded (check Index (ltb i 14) ∷ []) (get_or ran.station.tallies i 0)
+-- and what is read of the station in the end is read from the bytes in the end
+unfoldable pub ReadAtEnd : Type 0
+ReadAtEnd =
+    (station : Station) (store : List ℕ) → sound_station station ≡ true
+    → (calls : List Call) (ran : Ran) (end : CallsEnd station store calls ran)
+    → (i : ℕ) → read_in (last_of (state_bytes station) end.givens) ran.store i ≡ reading ran.station ran.store i

@@ -1,9 +1,8 @@
 -- Document 01, "Streams and receiving", first two paragraphs: "A station has one format and 16 slots, all closed when new. A slot is closed
--- or open with a key [..]. An open slot is idle, collecting with h bytes held, or done with h bytes." Here as 242 bytes that a caller
--- lends: a record of eight bytes for each slot, then the format, then the number of this layout, then the fourteen tallies (document 02,
--- L5). A record is two numbers of 32 bits, each low byte first: that of the key and that of the progress; both are 0 for a closed slot. The
--- documents have no layout. Its number stands in the bytes, so that those in the layout of another release, and zeros, are refused with
--- 21.
+-- or open with a key [..]. An open slot is idle, collecting with h bytes held, or done with h bytes." Here as 130 bytes that a caller
+-- lends: a record of eight bytes for each slot, then the format, then the number of this layout. A record is two numbers of 32 bits, each
+-- low byte first: that of the key and that of the progress; both are 0 for a closed slot. The document has no layout. Its number is the
+-- last byte, so that bytes in the layout of another release, and zeros, are refused with 21.
 use Rattle.std.specs.Prelude.{ℕ, zero, suc, ◌+◌, ◌*◌, ◌/◌, ◌%◌, Bool, true, cond, List, [], ◌∷◌, ◌++◌, leb, eqb, length, get_or}
 use Rattle.format.specs.declared.Format.{Format}
 use Rattle.format.specs.declared.Format.TheVariants.{Extended, Standard}
@@ -18,8 +17,8 @@ use Rattle.slot.specs.declared.Slot.{Slot}
 use Rattle.slot.specs.Slots.{closed_slot, open_slot}
 use Rattle.slot.specs.Codes.{key_code}
 use Rattle.station.specs.declared.Station.{Station}
-use Rattle.station.specs.Stations.{Bank, bank_with, bank_of, station_with}
-use Rattle.words.specs.Words.{word_bytes, word_at, long_bytes, long_at}
+use Rattle.station.specs.Stations.{station_of}
+use Rattle.words.specs.Words.{word_bytes, word_at}
 
 -- ---- the bytes of a station
 
@@ -51,23 +50,14 @@ slots_bytes (slot ∷ slots) = slot_bytes slot ++ slots_bytes slots
 
 -- a release that writes other bytes for a station gives them another number
 abbrev pub layout_number : ℕ
-layout_number = 2
+layout_number = 1
 
 -- the two bytes behind the slots
 abbrev pub end_bytes : Format → List ℕ
 end_bytes format = format_number format ∷ layout_number ∷ []
 
--- the 130 bytes of a bank, before others
-abbrev pub bank_bytes : Bank → (behind : List ℕ) → List ℕ
-bank_bytes bank behind = slots_bytes bank.slots ++ (end_bytes bank.format ++ behind)
-
--- document 02, L5: the tallies "as 64-bit numbers", eight bytes each
-abbrev pub tallies_bytes : List ℕ → List ℕ
-tallies_bytes [] = []
-tallies_bytes (n ∷ ns) = long_bytes n ++ tallies_bytes ns
-
 abbrev pub state_bytes : Station → List ℕ
-state_bytes station = bank_bytes (bank_of station) (tallies_bytes station.tallies)
+state_bytes station = slots_bytes station.slots ++ end_bytes station.format
 
 -- ---- the station read back
 
@@ -95,16 +85,8 @@ slots_from format state i (suc n) =
 abbrev pub format_at : List ℕ → Format
 format_at state = format_in (get_or state 128 0)
 
--- n tallies from tally i on
-unfoldable pub tallies_from : List ℕ → (i n : ℕ) → List ℕ
-tallies_from state i zero = []
-tallies_from state i (suc n) = long_at state (130 + 8 * i) ∷ tallies_from state (i + 1) n
-
-abbrev pub bank_in : List ℕ → Bank
-bank_in state = bank_with (format_at state) (slots_from (format_at state) state 0 16)
-
 abbrev pub station_in : List ℕ → Station
-station_in state = station_with (bank_in state) (tallies_from state 0 14)
+station_in state = station_of (format_at state) (slots_from (format_at state) state 0 16)
 
 -- ---- whether bytes are those of a station, sound or not: of the one that is read back
 
@@ -122,7 +104,7 @@ slots_written format state i (suc n) =
 unfoldable pub is_state : List ℕ → Bool
 is_state state =
     all_true
-    (eqb (length state) 242
+    (eqb (length state) 130
     ∷ leb (get_or state 128 0) 1
     ∷ eqb (get_or state 129 0) layout_number
     ∷ slots_written (format_at state) state 0 16

@@ -1,17 +1,15 @@
-// A station whose state is in lent bytes: sixteen records of eight bytes, the format, the layout's number, and
-// fourteen tallies of eight bytes. A record is two numbers of 32 bits: the key's and the progress's.
+// A station whose state is in lent bytes: sixteen records of eight bytes, the format, the layout's number. A
+// record is two numbers of 32 bits: the key's and the progress's.
 ghost use Rattle.std.specs.Prelude.{◌≡◌, cond, ◌+◌, ◌*◌, ◌-◌, ◌≤◌, ◌<◌, length};
 ghost use Rattle.copying.specs.Copy.{copied};
 ghost use Rattle.format.specs.Refusals.{meaning};
-ghost use Rattle.stream.specs.Answers.{meaning as reply·meaning};
 ghost use Rattle.slot.specs.Slots.{is_closed, place};
 ghost use Rattle.station.specs.Read.{length_of};
 ghost use Rattle.station.specs.Parts.{frame_of};
-ghost use Rattle.tally.specs.Tallies.{none_full};
-ghost use Rattle.words.specs.Words.{word_bytes, word_at, long_at};
-ghost use Rattle.station_bytes.specs.States.{format_number, format_in, progress_number, progress_from, slots_from, tallies_from};
-ghost use Rattle.station_bytes.specs.Calls.{receive_in, renewed, open_in, close_in, read_in, tally_in, answered, value_after, bytes_after, state_after};
-ghost use Rattle.station_bytes.specs.Parts.{key_fits, progress_fits, records_good, record_codes, Tested, IsThere, StepsIn, bank_receive_in, refused_full, with_rise};
+ghost use Rattle.words.specs.Words.{word_bytes, word_at};
+ghost use Rattle.station_bytes.specs.States.{format_number, format_in, progress_number, progress_from, slots_from};
+ghost use Rattle.station_bytes.specs.Calls.{receive_in, renewed, open_in, close_in, read_in, bytes_after, state_after};
+ghost use Rattle.station_bytes.specs.Parts.{key_fits, progress_fits, records_good, record_codes, Tested, IsThere, StepsIn};
 ghost use Rattle.station_bytes.specs.Claims as claims;
 ghost use Rattle.station_bytes.specs.Bounds.{StateBounds};
 
@@ -21,17 +19,16 @@ use frame::{Head, Verdict, judge};
 use slot::{Key, MostHeld, clash, find_key, key_in_range, key_number};
 use station::Store;
 use stream::{Answer, Area, Progress, step};
-use tally::{Tallies, tally_of};
-use words::{long_bytes, long_of, word_bytes, word_of};
+use words::{word_bytes, word_of};
 
-// The bytes of a state, and the number of their layout, which follows the format.
+// The bytes of a state, and the number of their layout, which is the last of them.
 #[derive(Drop)]
 pub struct State;
 
 impl State {
-    pub const SIZE: usize = 242;
+    pub const SIZE: usize = 130;
 
-    pub const LAYOUT: u8 = 2;
+    pub const LAYOUT: u8 = 1;
 }
 
 // The number in the four bytes from place at on.
@@ -143,7 +140,7 @@ fn code_of(closed: bool, key: u32, i: u32) -> u32
 // Whether each record by itself is that of a sound slot; the codes of the records. No branch in the
 // loop.
 fn scan(format: Format, state: &[u8], codes: &mut [u32; 16]) -> bool
-    requires { (length state.now ≡ 242) × (length codes.old ≡ 16) }
+    requires { (length state.now ≡ 130) × (length codes.old ≡ 16) }
     ensures value { result ≡ records_good format state.now 0 16 }
     ensures codes_after { codes.new ≡ record_codes state.now 0 16 }
 {
@@ -223,7 +220,7 @@ fn step_at(
     state: &mut [u8],
     store: &mut [u8],
 ) -> Answer
-    requires { (i < 16) × (length state.old ≡ 242) × (length store.old ≡ 32768) × (head.start ≤ length image.now) × (length image.now - head.start ≤ 8) }
+    requires { (i < 16) × (length state.old ≡ 130) × (length store.old ≡ 32768) × (head.start ≤ length image.now) × (length image.now - head.start ≤ 8) }
     ensures { StepsIn format i (frame_of head image.now) state.old store.old result state.new store.new }
 {
     let at = 8 * i + 4;
@@ -245,48 +242,9 @@ fn step_at(
     next.answer
 }
 
-// The number of 64 bits in the eight bytes from place at on.
-fn long_at(state: &[u8], at: usize) -> u64
-    requires { at + 8 ≤ length state.now }
-    ensures { result ≡ long_at state.now at }
-{
-    long_of(word_at(state, at), word_at(state, at + 4))
-}
-
-// Whether no tally stands at its largest value. No branch in the loop.
-fn none_full(state: &[u8]) -> bool
-    requires { length state.now ≡ 242 }
-    ensures { result ≡ none_full (tallies_from state.now 0 14) }
-{
-    let mut none = true;
-    let mut i: usize = 0;
-    while i < Tallies::COUNT {
-        none = none & (long_at(state, 130 + 8 * i) < u64::MAX);
-        i += 1;
-    }
-    none
-}
-
-// The tally of an answer goes up by one.
-fn raise(state: &mut [u8], answer: Answer)
-    requires { length state.old ≡ 242 }
-    ensures { state.new ≡ with_rise (reply·meaning answer) state.old }
-{
-    let i = tally_of(answer);
-    if i >= Tallies::COUNT {
-        return;
-    }
-    let at = 130 + 8 * i;
-    let n = long_at(state, at);
-    if n < u64::MAX {
-        let bytes = long_bytes(n + 1);
-        copy_in(state, at, &bytes);
-    }
-}
-
-// Receives an image on a bus in the bank: the first 130 bytes, whatever the tallies are.
-fn receive_bank(state: &mut [u8], store: &mut [u8], bus: u8, image: &[u8]) -> Answer
-    ensures { bytes_after result state.new store.new ≡ bank_receive_in state.old store.old bus image.now }
+// Receives an image on a bus, as Station::receive does, with the same answers.
+pub fn receive(state: &mut [u8], store: &mut [u8], bus: u8, image: &[u8]) -> Answer
+    ensures { bytes_after result state.new store.new ≡ receive_in state.old store.old bus image.now }
 {
     let mut codes = [0u32; 16];
     if !sound_codes(state, &mut codes) {
@@ -316,39 +274,6 @@ fn receive_bank(state: &mut [u8], store: &mut [u8], bus: u8, image: &[u8]) -> An
     }
 }
 
-// The refusal where a tally is full: the station, the store and the bus come first.
-fn refused_full(state: &[u8], size: usize, bus: u8) -> Refusal
-    ensures { result ≡ refused_full state.now size bus }
-{
-    let mut codes = [0u32; 16];
-    if !sound_codes(state, &mut codes) {
-        return Refusal::State;
-    }
-    if size != Store::SIZE {
-        return Refusal::Store;
-    }
-    if bus > 1 {
-        return Refusal::Field;
-    }
-    Refusal::Tally
-}
-
-// Receives an image on a bus, as Station::receive does, with the same answers.
-pub fn receive(state: &mut [u8], store: &mut [u8], bus: u8, image: &[u8]) -> Answer
-    ensures { bytes_after result state.new store.new ≡ receive_in state.old store.old bus image.now }
-{
-    if state.len() != State::SIZE {
-        return Answer::Refused(Refusal::State);
-    }
-    if !none_full(state) {
-        let name = refused_full(state, store.len(), bus);
-        return Answer::Refused(name);
-    }
-    let answer = receive_bank(state, store, bus, image);
-    raise(state, answer);
-    answer
-}
-
 // Makes the bytes those of a new station of a format, with every slot closed, and answers 0, or refuses: STATE.
 pub fn new(state: &mut [u8], format: Format) -> Outcome
     ensures { state_after result state.new ≡ renewed state.old format }
@@ -365,7 +290,7 @@ pub fn new(state: &mut [u8], format: Format) -> Outcome
 
 // The first slot whose record is a closed one's, 16 if there is none.
 fn first_closed(state: &[u8]) -> usize
-    requires { length state.now ≡ 242 }
+    requires { length state.now ≡ 130 }
     ensures { (format : Format) → result ≡ place is_closed (slots_from format state.now 0 16) }
 {
     let mut i: usize = 0;
@@ -455,23 +380,6 @@ pub fn read_length(state: &[u8], store: &[u8], i: usize) -> Outcome
             Outcome::Value(length)
         }
     }
-}
-
-// A tally, by its place in the order of the report, to the number lent, and answers 0, or refuses: STATE,
-// INDEX. A refusal leaves the number as it was.
-pub fn tally(state: &[u8], index: usize, value: &mut u64) -> Outcome
-    ensures result_value { meaning result ≡ answered (tally_in state.now index) }
-    ensures value_after { value.new ≡ value_after (tally_in state.now index) value.old }
-{
-    let mut codes = [0u32; 16];
-    if !sound_codes(state, &mut codes) {
-        return Outcome::Refused(Refusal::State);
-    }
-    if index >= Tallies::COUNT {
-        return Outcome::Refused(Refusal::Index);
-    }
-    *value = long_at(state, 130 + 8 * index);
-    Outcome::Value(0)
 }
 
 // The claims of this crate. It does nothing: its contract ties each claim to its proof.

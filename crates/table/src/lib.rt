@@ -1,10 +1,9 @@
 // The second front: receiving over a lent table of the sixteen stream records, the slots of a
-// station, with its fourteen tallies lent beside it. Nothing else is stored between calls; the format
-// is handed in.
+// station. Nothing else is stored between calls; the format is handed in.
 ghost use Rattle.std.specs.Prelude.{◌≡◌, length};
 ghost use Rattle.stream.specs.Answers.{meaning};
-ghost use Rattle.station.specs.Stations.{bank_with, station_with};
-ghost use Rattle.station.specs.Receive.{station_receive};
+ghost use Rattle.station.specs.Stations.{station_of};
+ghost use Rattle.station.specs.Receive.{receive};
 ghost use Rattle.table.specs.Front.{after_in};
 ghost use Rattle.table.specs.Claims as claims;
 
@@ -26,22 +25,20 @@ fn load(table: &[Slot]) -> [Slot; 16]
 
 // Receives an image on a bus, as Station::receive does, with the slots as a lent table. Only the record
 // that the call concerns is stored to, and none where it concerns none: take_turn names it. A table
-// of another length than 16, or tallies of another than 14, are refused with STATE, as is a table
-// that is not sound.
+// of another length than 16 is refused with STATE, as is one that is not sound.
 pub fn receive(
     format: Format,
     table: &mut [Slot],
-    tallies: &mut [u64],
     store: &mut [u8],
     bus: u8,
     image: &[u8],
 ) -> Answer
-    ensures { after_in format (meaning result) table.new tallies.new store.new ≡ station_receive (station_with (bank_with format table.old) tallies.old) store.old bus image.now }
+    ensures { after_in format (meaning result) table.new store.new ≡ receive (station_of format table.old) store.old bus image.now }
 {
     if table.len() != 16 {
         return Answer::Refused(Refusal::State);
     }
-    let t = take_turn(format, load(table), tallies, store, bus, image);
+    let t = take_turn(format, load(table), store, bus, image);
     let at = t.at;
     if at < 16 {
         table[at] = t.slot;
@@ -57,20 +54,18 @@ pub struct Lent {
 }
 
 // Lends a table of one's own to receive: for code that the borrow checker is to cover, which cannot
-// lend an array of structs itself. An array of numbers it can, so that the tallies are lent as they
-// are.
+// lend an array of structs itself.
 pub fn receive_by_value(
     format: Format,
     table: [Slot; 16],
-    tallies: &mut [u64],
     store: &mut [u8],
     bus: u8,
     image: &[u8],
 ) -> Lent
-    ensures { after_in format (meaning result.answer) result.table tallies.new store.new ≡ station_receive (station_with (bank_with format table) tallies.old) store.old bus image.now }
+    ensures { after_in format (meaning result.answer) result.table store.new ≡ receive (station_of format table) store.old bus image.now }
 {
     let mut lent = table;
-    let answer = receive(format, &mut lent, tallies, store, bus, image);
+    let answer = receive(format, &mut lent, store, bus, image);
     Lent {
         table: lent,
         answer: answer,
@@ -82,10 +77,8 @@ pub fn promised()
     ensures as_first { claims.AsFirst }
     ensures one_given { claims.OneGiven }
     ensures one_record { claims.OneRecord }
-    ensures one_tally { claims.OneTally }
     ensures not_sound { claims.NotSound }
     ensures other_length { claims.OtherLength }
-    ensures other_tallies { claims.OtherTallies }
     ensures refused_keeps { claims.RefusedKeeps }
     ensures on_table { claims.OnTable }
     ensures as_run { claims.AsRun }

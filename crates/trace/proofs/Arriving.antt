@@ -7,12 +7,13 @@ use mathlib.Core.List.{List, ◌++◌}
 use native.Mathlib.Omega.{arith}
 use lib.Dec.{ltb, eqb}
 use lib.ListN.{length, get_or, take, drop, length-append, length-drop, get_or-append}
-use lib.Seq.{take-append-le, drop-append-le, length-take-le}
+use lib.Seq.{take-append-le, drop-append-le}
 use borrow.Author.Tests.{eqb-true, eqb-false, ltb-true, ltb-false}
+use Rattle.trace.specs.declared.Entry.{Entry}
 use Rattle.trace.specs.declared.Entry.TheVariants.{Record, Damaged, Cut, End}
-use Rattle.trace.specs.Records.{whole, cut, none, image_in, record_at}
+use Rattle.trace.specs.Records.{Found, whole, damaged, cut, none, image_in, record_at, meaning}
 use Rattle.trace.specs.Claims.{Arriving, Sized, OneEntry}
-use Rattle.trace.proofs.Reading.{right, known, at_least, in_a_byte, version_known, bus_known, at_none, at_one, at_length, at_cut, at-damaged, at-whole}
+use Rattle.trace.proofs.Reading.{right, known, at_least, bus_known, at_none, at_one, at_length, at_cut, at-damaged, at_whole}
 
 abbrev follows : List ℕ → ℕ
 follows input = get_or input 0 0 * 256 + get_or input 1 0
@@ -39,13 +40,13 @@ cases input = at_size (eqb (length input) 0) refl (ltb (length input) 2) refl
     at-known two r long true e = unknown two r long e
     at-known two r long false e = full two r long e
 
-    at_end_lem : 2 ≤ length input → not (is_right input) ≡ false → (b : Bool) → ltb (length input) (2 + follows input) ≡ b → Case input
-    at_end_lem two r true e = short two r (ltb-true _ _ e)
-    at_end_lem two r false e = at-known two r (ltb-false _ _ e) (not (is_known input)) refl
+    at_end : 2 ≤ length input → not (is_right input) ≡ false → (b : Bool) → ltb (length input) (2 + follows input) ≡ b → Case input
+    at_end two r true e = short two r (ltb-true _ _ e)
+    at_end two r false e = at-known two r (ltb-false _ _ e) (not (is_known input)) refl
 
     at_right : 2 ≤ length input → (b : Bool) → not (is_right input) ≡ b → Case input
     at_right two true e = wrong two e
-    at_right two false e = at_end_lem two e (ltb (length input) (2 + follows input)) refl
+    at_right two false e = at_end two e (ltb (length input) (2 + follows input)) refl
 
     at_size : (a : Bool) → eqb (length input) 0 ≡ a → (b : Bool) → ltb (length input) 2 ≡ b → Case input
     at_size true e b f = empty (eqb-true _ _ e)
@@ -87,29 +88,18 @@ module _ (input more : List ℕ) where
   arrive (full two r long k) nc nn =
       let f : 2 ≤ follows input = at_least (follows input) r in
       let four : 4 ≤ length input = omega arith in
-      sym (at-whole (input ++ more) _ refl (omega (arith, longer)) (same_right two false r)
+      sym (at_whole (input ++ more) _ refl (omega (arith, longer)) (same_right two false r)
       (omega (arith, longer, same_follows two)) (same_known four false k))
       ∙ (λ j. whole (same 3 (omega arith) j) (image_in (2 + same_follows two j) (input ++ more)) (2 + same_follows two j))
       ∙ ap (λ (x : List ℕ). whole (get_or input 3 0) x (2 + follows input)) (same_image (2 + follows input) (omega arith) long)
-      ∙ at-whole input _ refl two r long k
+      ∙ at_whole input _ refl two r long k
 
 pub arriving : Arriving
 unfolding Arriving
 arriving input more nc nn = arrive input more (cases input) nc nn
 
--- the first four bytes of a whole record, and that its image and what follows it come after them
-pub record Whole (input : List ℕ) (bus : ℕ) (image : List ℕ) (size : ℕ) : Type 0 where
-  pub high : get_or input 0 0 ≡ 0
-  pub low : get_or input 1 0 ≡ 2 + length image
-  pub version : get_or input 2 0 ≡ 1
-  pub bus_is : get_or input 3 0 ≡ bus
-  pub bus_known : bus ≤ 1
-  pub image_is : image ≡ take (size - 4) (drop 4 input)
-  pub size_is : size ≡ 4 + length image
-  pub inside : size ≤ length input
-
 size_in : (input : List ℕ) (bus : ℕ) (image : List ℕ) (size : ℕ) → record_at input ≡ whole bus image size → Case input
-    → Whole input bus image size
+    → (4 ≤ size) × (size ≤ length input) × (bus ≤ 1)
 size_in input bus image size e (empty h) = let z = at_none input h ∙ e in let y : ◌≡◌ {A = ℕ} 0 1 = cc in absurd (omega arith)
 size_in input bus image size e (one s h) = let z = at_one input s h ∙ e in let y : ◌≡◌ {A = ℕ} 0 1 = cc in absurd (omega arith)
 size_in input bus image size e (wrong two r) =
@@ -119,32 +109,14 @@ size_in input bus image size e (short two r h) =
 size_in input bus image size e (unknown two r long k) =
     let z = at-damaged input _ refl two r long k ∙ e in let y : ◌≡◌ {A = ℕ} 0 1 = cc in absurd (omega arith)
 size_in input bus image size e (full two r long k) =
-    let z = at-whole input _ refl two r long k ∙ e in
+    let z = at_whole input _ refl two r long k ∙ e in
     let n : 2 + follows input ≡ size = cc in
-    let least : 2 ≤ follows input = at_least (follows input) r in
-    let most : follows input < 256 = in_a_byte (follows input) r in
-    let image-size : length (image_in (2 + follows input) input) ≡ follows input - 2 =
-    simp (length-take-le (2 + follows input - 4) (drop 4 input) (omega (arith, length-drop 4 input))) (omega arith) in
-    let im : image_in (2 + follows input) input ≡ image = cc in
-    let il : length image ≡ follows input - 2 = ap length (sym im) ∙ image-size in
     let b : get_or input 3 0 ≡ bus = cc in
-    record {
-      high = omega arith;
-      low = omega arith;
-      version = version_known (get_or input 2 0) (get_or input 3 0) k;
-      bus_is = b;
-      bus_known = omega (arith, bus_known (get_or input 2 0) (get_or input 3 0) k);
-      image_is = sym im ∙ ap (λ (m : ℕ). take (m - 4) (drop 4 input)) n;
-      size_is = omega arith;
-      inside = omega arith;
-    }
-
-pub in_whole : (input : List ℕ) (bus : ℕ) (image : List ℕ) (size : ℕ) → record_at input ≡ whole bus image size → Whole input bus image size
-in_whole input bus image size e = size_in input bus image size e (cases input)
+    (omega (arith, n, at_least (follows input) r), omega (arith, n), omega (arith, b, bus_known (get_or input 2 0) (get_or input 3 0) k))
 
 pub sized : Sized
 unfolding Sized
-sized input bus image size e = let w = in_whole input bus image size e in (w.size_is, w.inside, w.bus_known)
+sized input bus image size e = size_in input bus image size e (cases input)
 
 pub one_entry : OneEntry
 unfolding OneEntry

@@ -5,4 +5,3 @@ mod Decimals
 mod Bounds
 pub mod LineRoom
 pub mod Arriving
-pub mod Records

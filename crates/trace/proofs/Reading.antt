@@ -7,7 +7,7 @@ use mathlib.Core.List.{List, [], ◌∷◌}
 use lib.Dec.{leb, eqb}
 use lib.ListN.{length, get_or}
 use native.Mathlib.Omega.{arith}
-use borrow.Author.Tests.{le-leb, lt-leb, leb-true, eqb-true}
+use borrow.Author.Tests.{le-leb, lt-leb, leb-true}
 use Rattle.trace.specs.Records.{Found, whole, damaged, cut, none, image_in, Test, unless, found_by, record_at}
 
 -- two tests with the same to be found, of which one fails, or which both hold
@@ -56,12 +56,6 @@ known version bus = is_version version && is_bus bus
 pub at_least : (follows : ℕ) → not (right follows) ≡ false → 2 ≤ follows
 at_least follows h = leb-true 2 follows (both_left (least follows) (most follows) h)
 
-pub in_a_byte : (follows : ℕ) → not (right follows) ≡ false → follows < 256
-in_a_byte follows h = omega (arith, leb-true follows _ (both_right (least follows) (most follows) h))
-
-pub version_known : (version bus : ℕ) → not (known version bus) ≡ false → version ≡ 1
-version_known version bus h = eqb-true version 1 (both_left (is_version version) (is_bus bus) h)
-
 pub bus_known : (version bus : ℕ) → not (known version bus) ≡ false → bus ≤ 1
 bus_known version bus h = leb-true bus 1 (both_right (is_version version) (is_bus bus) h)
 
@@ -107,9 +101,9 @@ module _ (input : List ℕ) (follows : ℕ) (read : follows ≡ get_or input 0 0
         pub at-damaged : not (known version bus) ≡ true → damaged ≡ record_at input
         at-damaged h = one_fails (is_version version) (is_bus bus) damaged [] all_of_it h ∙ within
 
-        pub at-whole : not (known version bus) ≡ false → all_of_it ≡ record_at input
+        pub at_whole : not (known version bus) ≡ false → all_of_it ≡ record_at input
         unfolding found_by
-        at-whole h = both_hold (is_version version) (is_bus bus) damaged [] all_of_it h ∙ within
+        at_whole h = both_hold (is_version version) (is_bus bus) damaged [] all_of_it h ∙ within
 
 pub at_none : (input : List ℕ) → length input ≡ 0 → none ≡ record_at input
 unfolding record_at found_by

@@ -1,5 +1,5 @@
 -- Texts put together from parts, and numbers in decimal.
-use Prim.Native.Nat.{ℕ, zero, suc, ◌+◌, ◌/◌, ◌%◌, ◌^◌, ◌≤◌, ◌<◌}
+use Prim.Native.Nat.{ℕ, zero, suc, ◌+◌, ◌*◌, ◌/◌, ◌%◌, ◌^◌, ◌≤◌, ◌<◌}
 use mathlib.Core.Path.{◌≡◌, refl, sym, ap, subst, ◌∙◌}
 use mathlib.Core.Logic.{◌≢◌}
 use mathlib.Core.Bool.{Bool, true, false, cond}
@@ -7,14 +7,13 @@ use mathlib.Core.List.{List, [], ◌∷◌, ◌++◌, append_assoc, append-nil}
 use native.Mathlib.Nat.{div-lt_iff_lt-mul, pow-suc}
 use native.Mathlib.Numerals.{add-one}
 use native.Mathlib.Omega.{arith}
-use lib.ListN.{length, get_or, take, drop, set, length-append, length-set}
-use lib.Seq.{drop-cons, take-suc-set, take_at, length-take-le}
+use lib.ListN.{length, take, set, length-append, length-set}
+use lib.Seq.{take-suc-set, take_at, length-take-le}
 use lib.Dec.{ltb}
 use borrow.Author.Tests.{lt-ltb, le-ltb, ltb-true, ltb-false}
 use Rattle.copying.specs.Copy.{written}
 use Rattle.copying.proofs.Copying.{written_length}
-use Rattle.trace.specs.Lines.{digits, decimal, field_text, fields_text, bus_name, ascii, answer_text, total_line}
-use Rattle.trace.specs.Totals.{total_lines}
+use Rattle.trace.specs.Lines.{digits, decimal, field_text, fields_text, bus_name, ascii, answer_text}
 use Rattle.format.specs.Refusals.{Result, value, refused}
 use Rattle.stream.specs.Answers.{Reply, packet, kept, filtered}
 use Rattle.trace.specs.Parts.{Put}
@@ -46,35 +45,6 @@ module _ {text : List ℕ} {at : ℕ} {a : List ℕ} {m : ℕ} {mid : List ℕ} 
         head = q.head ∙ ap (λ (l : List ℕ). l ++ b) p.head ∙ append_assoc (take at text) a b;
         size = q.size ∙ p.size;
       }
-
--- nothing more
-pub put_none : (text : List ℕ) (at : ℕ) → Put text at [] at text
-put_none text at = record { place = omega arith; head = sym (append-nil (take at text)); size = refl }
-
--- a line of the report, and those that follow it
-pub total_then : (names : List (List ℕ)) (sums : List ℕ) (k : ℕ) {text mid last : List ℕ} {at m r : ℕ} → k < length names → k < length sums
-    → Put text at (total_line (get_or names k []) (get_or sums k 0)) m mid
-    → Put mid m (total_lines (drop (suc k) names) (drop (suc k) sums)) r last
-    → Put text at (total_lines (drop k names) (drop k sums)) r last
-unfolding total_lines
-total_then names sums k h e p q = rw (drop-cons names k [] h, drop-cons sums k 0 e) (put_then p q)
-
--- no sums, no lines
-totals_none : (names : List (List ℕ)) → total_lines names [] ≡ []
-unfolding total_lines
-totals_none [] = refl
-totals_none (name ∷ names) = refl
-
--- the first k lines, and those that follow them
-pub total_parts : (k : ℕ) (names : List (List ℕ)) (sums : List ℕ)
-    → total_lines (take k names) sums ++ total_lines (drop k names) (drop k sums) ≡ total_lines names sums
-unfolding total_lines
-total_parts zero names sums = refl
-total_parts (suc k) [] sums = refl
-total_parts (suc k) (name ∷ names) [] = totals_none (drop k names)
-total_parts (suc k) (name ∷ names) (sum ∷ sums) =
-    append_assoc (total_line name sum) (total_lines (take k names) sums) (total_lines (drop k names) (drop k sums))
-    ∙ ap (λ (l : List ℕ). total_line name sum ++ l) (total_parts k names sums)
 
 -- ---- numbers
 
@@ -132,6 +102,9 @@ field_byte n h = go (ltb n 10) (ltb n 100) refl refl
         let m : 10 ≤ n / 10 = omega (arith, ltb-false n 100 f) in
         let l : n / 10 / 10 < 10 = omega arith in
         omega (arith, field_length n, decimal_longer n (ltb-false n 10 e) (omega arith), decimal_longer (n / 10) m (omega arith), ap length (decimal_small (n / 10 / 10) l))
+
+pub put_none : (text : List ℕ) (at : ℕ) → Put text at [] at text
+put_none text at = record { place = omega arith; head = sym (append-nil (take at text)); size = refl }
 
 -- a blank, then the number
 pub put_blank : (text : List ℕ) (at n r : ℕ) (last : List ℕ) → at < length text → Put (set text at 32) (at + 1) (decimal n) r last → Put text at (field_text n) r last

@@ -15,7 +15,6 @@ use Rattle.format.proofs.Checks.{stop_then, pass_then, none_left_then}
 use Rattle.format.proofs.Outputs.{no_room, has_room, not_written, written_over}
 use Rattle.trace.specs.declared.Line.{Line}
 use Rattle.trace.specs.Lines.{line_text, line_in_range, writing}
-use Rattle.trace.specs.Totals.{tally_text, writing_totals}
 use Rattle.trace.specs.Parts.{Put}
 
 -- a whole text: its length, and that it stands in the buffer
@@ -51,19 +50,3 @@ module _ (line : Line) (output : List ℕ) where
     within_room h bytes last eb el =
         written_over _ output (line_text line) n last (fits (has_room (line_text line) output n e h)) e
         (el ∙ rw eb (head_copied output (line_text line) (omega arith)))
-
--- ---- the lines of the report
-
-module _ (sums output : List ℕ) (n : ℕ) (e : n ≡ length (tally_text sums)) where
-  abbrev Totals : Result ℕ → List ℕ → Type 0
-  Totals = Writes (writing_totals sums (length output)) output
-
-  pub totals_too_long : length output < n → Totals (refused 12) output
-  unfolding writing_totals
-  totals_too_long h = not_written _ output 12 (no_room (tally_text sums) output n e h)
-
-  pub totals_written : n ≤ length output → (bytes last : List ℕ) → bytes ≡ tally_text sums → last ≡ copied output 0 bytes → Totals (value n) last
-  unfolding writing_totals
-  totals_written h bytes last eb el =
-      written_over _ output (tally_text sums) n last (has_room (tally_text sums) output n e h) e
-      (el ∙ rw eb (head_copied output (tally_text sums) (omega arith)))

@@ -1,17 +1,16 @@
 -- Document 01, the listing program: the bounds of a record ("2 to 15", "version byte 1", "bus byte 0 or 1", "the input ends inside it"),
 -- and the columns, words and numbers of a line, each by examples, so that no definition can be changed alike with the code. Tables of
 -- what is asked and what is to come of it; proofs/Bounds.antt proves them by computing.
-use Rattle.std.specs.Prelude.{ℕ, ◌≡◌, Bool, true, false, List, [], ◌∷◌, replicate}
+use Rattle.std.specs.Prelude.{ℕ, ◌≡◌, Bool, true, false, List, [], ◌∷◌, ◌++◌, replicate}
 use Rattle.format.specs.declared.Fields.{Fields}
 use Rattle.format.specs.declared.Fields.TheVariants as fields
 use Rattle.format.specs.declared.Flag.TheVariants.{Start, Middle, End, Single}
 use Rattle.format.specs.declared.Refusal.TheVariants.{Remote, Count, Surplus, Orphan, State}
 use Rattle.format.specs.Refusals.{Result, value, refused}
-use Rattle.frame.specs.Calls.{Call}
 use Rattle.stream.specs.declared.Answer.TheVariants as answer
 use Rattle.trace.specs.declared.Line.{Line}
 use Rattle.trace.specs.declared.Line.TheVariants as line
-use Rattle.trace.specs.Records.{Found, whole, damaged, cut, none, record_at, at_end, inside_record, at_damaged, Records, records_in}
+use Rattle.trace.specs.Records.{Found, whole, damaged, cut, none, record_at}
 use Rattle.trace.specs.Lines.{ascii, line_text, line_in_range, writing}
 
 pub data Row (A B : Type 0) : Type 0 where
@@ -72,28 +71,6 @@ records =
 
 unfoldable pub RecordBounds : Type 0
 RecordBounds = AllAs record_at records
-
--- ---- all records of a trace
-
-abbrev calling : (bus : ℕ) → List ℕ → Call
-calling bus image = record { bus = bus; image = image }
-
-abbrev pub traces : List (Row (List ℕ) Records)
-traces =
-    row [] (record { calls = []; rest = []; ending = at_end })
-    -- two records, of which the first is as short as one can be
-    ∷ row (0x00 ∷ 0x02 ∷ 1 ∷ 0 ∷ 0x00 ∷ 0x03 ∷ 1 ∷ 1 ∷ 0x81 ∷ [])
-    (record { calls = calling 0 [] ∷ calling 1 (0x81 ∷ []) ∷ []; rest = []; ending = at_end })
-    -- the input ends inside the second
-    ∷ row (0x00 ∷ 0x02 ∷ 1 ∷ 0 ∷ 0x00 ∷ 0x03 ∷ 1 ∷ 1 ∷ [])
-    (record { calls = calling 0 [] ∷ []; rest = 0x00 ∷ 0x03 ∷ 1 ∷ 1 ∷ []; ending = inside_record })
-    -- the second is damaged: nothing after is read
-    ∷ row (0x00 ∷ 0x02 ∷ 1 ∷ 0 ∷ 0x00 ∷ 0x02 ∷ 1 ∷ 2 ∷ 0x00 ∷ 0x02 ∷ 1 ∷ 0 ∷ [])
-    (record { calls = calling 0 [] ∷ []; rest = 0x00 ∷ 0x02 ∷ 1 ∷ 2 ∷ 0x00 ∷ 0x02 ∷ 1 ∷ 0 ∷ []; ending = at_damaged })
-    ∷ []
-
-unfoldable pub TraceBounds : Type 0
-TraceBounds = AllAs records_in traces
 
 -- ---- lines
 

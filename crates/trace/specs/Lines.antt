@@ -74,17 +74,12 @@ frame_line r bus id flag n count answer =
 unfoldable pub refused_line : (r bus refusal : ℕ) → List ℕ
 refused_line r bus refusal = with_newline (decimal r ++ (bus_name bus ++ answer_text (refused refusal)))
 
--- a damaged record
+-- a damaged record; how many records there were
 unfoldable pub stopped_line : ℕ → List ℕ
 stopped_line r = with_newline (decimal r ++ ascii " stopped")
 
--- what is counted, and how often it was
-unfoldable pub total_line : (name : List ℕ) → ℕ → List ℕ
-total_line name n = with_newline (name ++ field_text n)
-
--- how many records there were
 unfoldable pub count_line : ℕ → List ℕ
-count_line n = total_line (ascii "records") n
+count_line n = with_newline (ascii "records" ++ field_text n)
 
 -- ---- the call that writes a line
 

@@ -1,7 +1,6 @@
 -- Document 01, the listing program: "A record is a two-byte big-endian length of what follows (2 to 15), version byte 1, bus byte 0
 -- or 1, image." "A record is damaged when its length, version or bus is none of these or the input ends inside it."
-use Rattle.std.specs.Prelude.{ℕ, zero, suc, ◌+◌, ◌-◌, ◌*◌, Bool, cond, List, [], ◌∷◌, leb, eqb, length, get_or, take, drop}
-use Rattle.frame.specs.Calls.{Call}
+use Rattle.std.specs.Prelude.{ℕ, ◌+◌, ◌-◌, ◌*◌, Bool, cond, List, [], ◌∷◌, leb, eqb, length, get_or, take, drop}
 use Rattle.trace.specs.declared.Entry.{Entry}
 use Rattle.trace.specs.declared.Entry.TheVariants as entry
 
@@ -47,38 +46,3 @@ meaning (entry.Record bus size) input = whole bus (image_in size input) size
 meaning entry.Damaged input = damaged
 meaning entry.Cut input = cut
 meaning entry.End input = none
-
--- ---- all records of a trace
-
--- how a trace ends: no byte is left, the input ends inside a record, or the next record is damaged by its length, version or bus
-pub data TraceEnd : Type 0 where
-  at_end : TraceEnd
-  inside_record : TraceEnd
-  at_damaged : TraceEnd
-
--- a trace's whole records in order, each a call to receive its image on its bus; what is left, and how the trace ends there
-pub record Records : Type 0 where
-  pub calls : List Call
-  pub rest : List ℕ
-  pub ending : TraceEnd
-
-abbrev pub no_call : (rest : List ℕ) → TraceEnd → Records
-no_call rest ending = record { calls = []; rest = rest; ending = ending }
-
-abbrev pub call_then : Call → Records → Records
-call_then call r = record { calls = call ∷ r.calls; rest = r.rest; ending = r.ending }
-
--- a whole record, and then what follows it
-abbrev pub records_by : List ℕ → Found → (following : List ℕ → Records) → Records
-records_by input none following = no_call input at_end
-records_by input cut following = no_call input inside_record
-records_by input damaged following = no_call input at_damaged
-records_by input (whole bus image size) following = call_then (record { bus = bus; image = image }) (following (drop size input))
-
--- each record takes some of the input, so that as many rounds as it has bytes are enough
-unfoldable pub records_within : (rounds : ℕ) → List ℕ → Records
-records_within zero input = no_call input at_end
-records_within (suc rounds) input = records_by input (record_at input) (records_within rounds)
-
-unfoldable pub records_in : List ℕ → Records
-records_in input = records_within (length input) input

@@ -1,16 +1,15 @@
 // Traces: one record read from lent bytes, and one line of the listing written to a lent output.
-ghost use Rattle.std.specs.Prelude.{◌≡◌, ◌++◌, ◌+◌, ◌*◌, ◌≤◌, ◌<◌, length, take, drop};
+ghost use Rattle.std.specs.Prelude.{◌≡◌, ◌++◌, ◌+◌, ◌*◌, ◌≤◌, ◌<◌, length, take};
 ghost use Rattle.format.specs.Formats.{flag_bits};
 ghost use Rattle.format.specs.Refusals.{refused, number};
 ghost use Rattle.format.specs.Refusals.{meaning as outcome·meaning};
 ghost use Rattle.stream.specs.Answers.{meaning as reply·meaning};
 ghost use Rattle.format.specs.Outputs.{answer, output_after};
 ghost use Rattle.trace.specs.Records.{record_at, meaning};
-ghost use Rattle.trace.specs.Lines.{ascii, decimal, field_text, fields_text, bus_name, broke_or, answer_text, columns, frame_line, refused_line, stopped_line, total_line, line_text, extended_in_range, line_in_range, writing};
-ghost use Rattle.trace.specs.Totals.{tally_names, total_lines, tally_text, writing_totals};
+ghost use Rattle.trace.specs.Lines.{ascii, decimal, field_text, fields_text, bus_name, broke_or, answer_text, columns, frame_line, refused_line, stopped_line, count_line, line_text, extended_in_range, line_in_range, writing};
 ghost use Rattle.trace.specs.Parts.{Put};
-ghost use Rattle.trace.specs.Claims.{RoomForLine, Decimal, Arriving, Sized, OneEntry, AllRecords, MoreRecords};
-ghost use Rattle.trace.specs.Bounds.{RecordBounds, TraceBounds, LineTexts, LinesRefused};
+ghost use Rattle.trace.specs.Claims.{RoomForLine, Decimal, Arriving, Sized, OneEntry};
+ghost use Rattle.trace.specs.Bounds.{RecordBounds, LineTexts, LinesRefused};
 
 use format::{Fields, Flag, Outcome, Refusal};
 use stream::Answer;
@@ -284,14 +283,12 @@ fn put_stopped(text: &mut [u8; 96], ordinal: u64) -> usize
     put_word(text, to, b" stopped\n")
 }
 
-// What is counted, and how often it was.
-fn put_total(text: &mut [u8], at: usize, name: &[u8], n: u64) -> usize
-    requires { at + length name.now + 22 ≤ length text.old }
-    ensures put { Put text.old at (total_line name.now n) result text.new }
-    ensures upper_bound { result ≤ at + length name.now + 22 }
+fn put_records(text: &mut [u8; 96], count: u64) -> usize
+    requires { length text.old ≡ 96 }
+    ensures { Put text.old 0 (count_line count) result text.new }
 {
-    let to = put_word(text, at, name);
-    let to = put_field(text, to, n);
+    let to = put_word(text, 0, b"records");
+    let to = put_field(text, to, count);
     put_end(text, to)
 }
 
@@ -316,7 +313,7 @@ fn put_line(text: &mut [u8; 96], line: Line) -> usize
         } => put_frame(text, ordinal, bus, fields, flag, number, count, answer),
         Line::Refused { ordinal, bus, name } => put_refusal(text, ordinal, bus, name),
         Line::Stopped { ordinal } => put_stopped(text, ordinal),
-        Line::Records { count } => put_total(text, 0, b"records", count),
+        Line::Records { count } => put_records(text, count),
     }
 }
 
@@ -380,59 +377,6 @@ pub fn write_line(line: Line, output: &mut [u8]) -> Outcome
     Outcome::Value(n)
 }
 
-// The lines of the answers, at the text's beginning.
-fn put_answer_totals(text: &mut [u8; 512], sums: [u64; 14]) -> usize
-    requires { length text.old ≡ 512 }
-    ensures put { Put text.old 0 (total_lines (take 5 tally_names) sums) result text.new }
-    ensures upper_bound { result ≤ 150 }
-{
-    let to = put_total(text, 0, b"packet", sums[0]);
-    let to = put_total(text, to, b"packet broke", sums[1]);
-    let to = put_total(text, to, b"kept", sums[2]);
-    let to = put_total(text, to, b"kept broke", sums[3]);
-    put_total(text, to, b"filtered", sums[4])
-}
-
-// Those of the refusals follow.
-fn put_refusal_totals(text: &mut [u8; 512], at: usize, sums: [u64; 14]) -> usize
-    requires { (at ≤ 150) × (length text.old ≡ 512) }
-    ensures { Put text.old at (total_lines (drop 5 tally_names) (drop 5 sums)) result text.new }
-{
-    let to = put_total(text, at, b"refused 1", sums[5]);
-    let to = put_total(text, to, b"refused 2", sums[6]);
-    let to = put_total(text, to, b"refused 3", sums[7]);
-    let to = put_total(text, to, b"refused 4", sums[8]);
-    let to = put_total(text, to, b"refused 5", sums[9]);
-    let to = put_total(text, to, b"refused 6", sums[10]);
-    let to = put_total(text, to, b"refused 7", sums[11]);
-    let to = put_total(text, to, b"refused 8", sums[12]);
-    put_total(text, to, b"refused 25", sums[13])
-}
-
-// The lines of the report, at the text's beginning.
-fn put_totals(text: &mut [u8; 512], sums: [u64; 14]) -> usize
-    requires { length text.old ≡ 512 }
-    ensures { Put text.old 0 (tally_text sums) result text.new }
-{
-    let to = put_answer_totals(text, sums);
-    put_refusal_totals(text, to, sums)
-}
-
-// Writes the lines of the report over the head of the output and answers their length, or refuses:
-// ROOM.
-pub fn write_totals(sums: [u64; 14], output: &mut [u8]) -> Outcome
-    ensures result_value { outcome·meaning result ≡ answer (writing_totals sums (length output.old)) }
-    ensures output_after { output.new ≡ output_after (writing_totals sums (length output.old)) output.old }
-{
-    let mut text = [0u8; 512];
-    let size = put_totals(&mut text, sums);
-    if output.len() < size {
-        return Outcome::Refused(Refusal::Room);
-    }
-    copying::copy_in(output, 0, &text[..size]);
-    Outcome::Value(size)
-}
-
 // The claims of this crate. It does nothing: its contract ties each claim to its proof.
 pub fn promised()
     ensures room_for_line { RoomForLine }
@@ -440,10 +384,7 @@ pub fn promised()
     ensures arriving { Arriving }
     ensures sized { Sized }
     ensures one_entry { OneEntry }
-    ensures all_records { AllRecords }
-    ensures more_records { MoreRecords }
     ensures record_bounds { RecordBounds }
-    ensures trace_bounds { TraceBounds }
     ensures line_texts { LineTexts }
     ensures lines_refused { LinesRefused }
 {}

@@ -1,13 +1,13 @@
 -- Numbers of 32 bits and their four bytes: each way back, also from any place in a list.
 use Prim.Native.Nat.{ℕ, ◌+◌, ◌*◌, ◌/◌, ◌%◌, ◌^◌, ◌≤◌, ◌<◌}
-use mathlib.Core.Path.{◌≡◌, refl, sym, ap, ◌∙◌}
-use mathlib.Core.List.{List, [], ◌∷◌, ◌++◌, append_assoc}
+use mathlib.Core.Path.{◌≡◌, refl, ◌∙◌}
+use mathlib.Core.List.{List, [], ◌∷◌, ◌++◌}
 use native.Mathlib.Nat.{add_assoc}
 use native.Mathlib.Numerals.{add-one}
 use native.Mathlib.Omega.{arith}
-use lib.ListN.{length, get_or, take, drop, length-append}
-use lib.Seq.{drop-cons, get_or-append-add, take-add, drop-drop}
-use Rattle.words.specs.Words.{word_bytes, word_of, word_at, long_bytes, long_of, long_at}
+use lib.ListN.{length, get_or, take, drop}
+use lib.Seq.{drop-cons, get_or-append-add}
+use Rattle.words.specs.Words.{word_bytes, word_of, word_at}
 
 -- the bytes of a number, read back, are the number, whatever follows them
 pub read_back : (w : ℕ) (rest : List ℕ) → w < 2 ^ 32 → word_at (word_bytes w ++ rest) 0 ≡ w
@@ -65,55 +65,3 @@ word_below a b c d ha hb hc hd = omega arith
 pub four : (w : ℕ) → length (word_bytes w) ≡ 4
 unfolding word_bytes
 four w = refl
-
--- ---- numbers of 64 bits, by their halves
-
-pub eight : (n : ℕ) → length (long_bytes n) ≡ 8
-unfolding long_bytes
-eight n = length-append (word_bytes (n % 4294967296)) (word_bytes (n / 4294967296)) ∙ omega (arith, four (n % 4294967296), four (n / 4294967296))
-
-halves : (n : ℕ) → long_of (n % 4294967296) (n / 4294967296) ≡ n
-unfolding long_of
-halves n = omega arith
-
-pub long_after : (front : List ℕ) (n : ℕ) (rest : List ℕ) (at : ℕ) → length front ≡ at → n < 2 ^ 64
-    → long_at (front ++ (long_bytes n ++ rest)) at ≡ n
-unfolding long_at long_bytes
-long_after front n rest at l h =
-    let low = word_bytes (n % 4294967296) in
-    let high = word_bytes (n / 4294967296) in
-    let small : n % 4294967296 < 2 ^ 32 = omega arith in
-    let large : n / 4294967296 < 2 ^ 32 = omega (arith, h) in
-    let first = ap (λ (l : List ℕ). front ++ l) (append_assoc low high rest) in
-    let second = first ∙ sym (append_assoc front low (high ++ rest)) in
-    let size : length (front ++ low) ≡ at + 4 = length-append front low ∙ omega (arith, l, four (n % 4294967296)) in
-    let a = ap (λ (l : List ℕ). word_at l at) first ∙ read_after front (n % 4294967296) (high ++ rest) at l small in
-    let b = ap (λ (l : List ℕ). word_at l (at + 4)) second ∙ read_after (front ++ low) (n / 4294967296) rest (at + 4) size large in
-    rw (a, b) (halves n)
-
-word_small : (list : List ℕ) → ((i : ℕ) → get_or list i 0 < 256) → (at : ℕ) → word_at list at < 4294967296
-unfolding word_at
-word_small list bytes at =
-    word_below (get_or list at 0) (get_or list (at + 1) 0) (get_or list (at + 2) 0) (get_or list (at + 3) 0) (bytes at) (bytes (at + 1)) (bytes (at + 2)) (bytes (at + 3))
-
-pub long_written_at : (list : List ℕ) → ((i : ℕ) → get_or list i 0 < 256) → (at : ℕ) → at + 8 ≤ length list
-    → long_bytes (long_at list at) ≡ take 8 (drop at list)
-unfolding long_at long_bytes long_of
-long_written_at list bytes at h =
-    let low = word_at list at in
-    let high = word_at list (at + 4) in
-    let small : low < 4294967296 = word_small list bytes at in
-    let lower : (low + high * 4294967296) % 4294967296 ≡ low = omega (arith, small) in
-    let higher : (low + high * 4294967296) / 4294967296 ≡ high = omega (arith, small) in
-    let a = written_at list bytes at (omega (arith, h)) in
-    let b = written_at list bytes (at + 4) (omega (arith, h)) in
-    let parts = take-add 4 4 (drop at list) in
-    let further = drop-drop 4 at list in
-    rw (lower, higher) (cc)
-
-pub long_below : (list : List ℕ) → ((i : ℕ) → get_or list i 0 < 256) → (at : ℕ) → long_at list at < 2 ^ 64
-unfolding long_at long_of
-long_below list bytes at =
-    let a : word_at list at < 4294967296 = word_small list bytes at in
-    let b : word_at list (at + 4) < 4294967296 = word_small list bytes (at + 4) in
-    omega (arith, a, b)

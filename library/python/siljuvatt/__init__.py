@@ -1,9 +1,8 @@
 """Satellite avionics units on their two CAN lines, to GB/T 43671-2024.
 
-Frames of both formats, split and joined; up to sixteen streams a station, and a tally of each of its answers;
-acceptance filters; a master's exchanges over both buses; a watch for a bus gone silent. The functions behind this
-module are proved; the module hands bytes to them and names their answers. What cannot be done raises Refused, with a
-number and a name of document 01 or 02.
+Frames of both formats, split and joined; up to sixteen streams a station; acceptance filters; a master's exchanges over
+both buses; a watch for a bus gone silent. The functions behind this module are proved; the module hands bytes to them
+and names their answers. What cannot be done raises Refused, with a number and a name of document 01 or 02.
 
 The shared library is loaded at the first call: the file that load() was given, or else the one that the environment
 variable SILJUVATT_SO names, or else libsiljuvatt.so beside this file, where pip installs it, or in target/staticlib of
@@ -18,8 +17,6 @@ the repository, where library/make-shared makes it. It must be of this module's 
 81 45 00 81 10 39 Packet(length=9, broke=False)
 >>> station.read_bytes(slot)
 b'004127019'
->>> station.tallies.packet, station.tallies.kept, station.tallies.total
-(1, 1, 2)
 """
 
 from __future__ import annotations
@@ -38,17 +35,15 @@ __all__ = [
     "FILTERED", "Fields", "Filter", "Filtered", "Format", "GAVE_UP", "GaveUp", "KEPT", "Kept", "Kind", "MASTER_LAYOUT",
     "MASTER_SIZE", "Master", "PACKET", "Packet", "ROW_SIZE", "Refusal", "Refused", "Reply", "SEND", "SILENCE", "SLOTS",
     "STANDARD_FIELDS", "STANDARD_IMAGE", "STANDARD_LIMIT", "STATION_LAYOUT", "STATION_SIZE", "STORE_SIZE", "Send",
-    "Silent", "StandardFields", "Station", "Step", "TALLIES", "TALLY_FILTERED", "TALLY_KEPT", "TALLY_KEPT_BROKE",
-    "TALLY_PACKET", "TALLY_PACKET_BROKE", "TALLY_REFUSED_1", "TALLY_REFUSED_2", "TALLY_REFUSED_25", "TALLY_REFUSED_3",
-    "TALLY_REFUSED_4", "TALLY_REFUSED_5", "TALLY_REFUSED_6", "TALLY_REFUSED_7", "TALLY_REFUSED_8", "Tallies", "VERSION",
-    "VERSION_MAJOR", "VERSION_MINOR", "VERSION_PATCH", "WATCH_LAYOUT", "WATCH_SIZE", "Watch", "id_of", "load",
-    "piece_count", "pieces", "row_accepts", "version", "write_piece",
+    "Silent", "StandardFields", "Station", "Step", "VERSION", "VERSION_MAJOR", "VERSION_MINOR", "VERSION_PATCH",
+    "WATCH_LAYOUT", "WATCH_SIZE", "Watch", "id_of", "load", "piece_count", "pieces", "row_accepts", "version",
+    "write_piece",
 ]
 
 # The names and the numbers are those of include/siljuvatt.h, which has SILJUVATT_ before each.
 
 VERSION_MAJOR = 0
-VERSION_MINOR = 3
+VERSION_MINOR = 2
 VERSION_PATCH = 0
 VERSION = 65536 * VERSION_MAJOR + 256 * VERSION_MINOR + VERSION_PATCH
 __version__ = f"{VERSION_MAJOR}.{VERSION_MINOR}.{VERSION_PATCH}"
@@ -60,8 +55,8 @@ STANDARD_LIMIT = 1792
 EXTENDED_IMAGE = 13  # most bytes in an image
 STANDARD_IMAGE = 10
 
-STATION_SIZE = 242
-STATION_LAYOUT = 2
+STATION_SIZE = 130
+STATION_LAYOUT = 1
 SLOTS = 16
 STORE_SIZE = 32768
 AREA_SIZE = 2048  # what each slot owns of the store
@@ -79,23 +74,6 @@ FILTERED = 6
 SEND = 7
 DONE = 8
 GAVE_UP = 9
-
-# Indices of tallies, which this module names by the fields of Tallies; how many there are.
-TALLY_PACKET = 0
-TALLY_PACKET_BROKE = 1
-TALLY_KEPT = 2
-TALLY_KEPT_BROKE = 3
-TALLY_FILTERED = 4
-TALLY_REFUSED_1 = 5
-TALLY_REFUSED_2 = 6
-TALLY_REFUSED_3 = 7
-TALLY_REFUSED_4 = 8
-TALLY_REFUSED_5 = 9
-TALLY_REFUSED_6 = 10
-TALLY_REFUSED_7 = 11
-TALLY_REFUSED_8 = 12
-TALLY_REFUSED_25 = 13
-TALLIES = 14
 
 _VARIABLE = "SILJUVATT_SO"
 _FILE = "libsiljuvatt.so"
@@ -169,7 +147,7 @@ class Refusal(IntEnum):
     LONG = 8, "the packet would pass 2,048 bytes; the stream is idle now"
     FIELD = 9, "a format, field, bus, kind or node is out of range, or the fields are of another format"
     SIZE = 10, "the packet is over the format's limit"
-    INDEX = 11, "there is no piece k, or no tally of that index"
+    INDEX = 11, "there is no piece k"
     ROOM = 12, "the output is shorter than the image"
     STORE = 13, "the store is not 32,768 bytes"
     TAKEN = 14, "the key is open already"
@@ -181,15 +159,13 @@ class Refusal(IntEnum):
     NOTAWAITED = 20, "the reply does not count"
     STATE = 21, "the bytes are no sound station, master or watch of this release's layout"
     SURPLUS = 25, "the image is longer than its count says"
-    TALLY = 26, "a tally of the station stands at its largest value"
 
 
 _REFUSALS = {int(refusal): refusal for refusal in Refusal}
 
 
 class Refused(Exception):
-    """A call was refused. Nothing has changed, but for the tally of an image that was judged, and for the stream that
-    lost its place (STEP, LONG).
+    """A call was refused. Nothing has changed, but for the stream that lost its place (STEP, LONG).
 
     A number that this release does not know has the name UNKNOWN, and no refusal.
 
@@ -256,41 +232,6 @@ Reply = Union[Packet, Kept, Filtered]
 Step = Union[Send, Done, GaveUp]
 
 
-class Tallies(NamedTuple):
-    """How often a station gave each answer to an image, and each refusal that an image can have.
-
-    Later releases add some: take them by their names.
-
-    >>> Tallies(*range(1, 15)).named["packet broke"]
-    2
-    """
-
-    packet: int
-    packet_broke: int
-    kept: int
-    kept_broke: int
-    filtered: int
-    refused_1: int  # LENGTH
-    refused_2: int  # FORM
-    refused_3: int  # REMOTE
-    refused_4: int  # COUNT
-    refused_5: int  # PIECE
-    refused_6: int  # ORPHAN
-    refused_7: int  # STEP
-    refused_8: int  # LONG
-    refused_25: int  # SURPLUS
-
-    @property
-    def named(self) -> dict[str, int]:
-        """All of them, in the order and with the names in which the program report prints them."""
-        return {field.replace("_", " "): tally for field, tally in zip(self._fields, self)}
-
-    @property
-    def total(self) -> int:
-        """How many images were judged: the sum of all."""
-        return sum(self)
-
-
 class Silent(NamedTuple):
     """Which buses are to be reset."""
 
@@ -302,7 +243,7 @@ class Silent(NamedTuple):
 
 _loaded: Optional[ctypes.CDLL] = None
 
-_u8, _u16, _u32, _u64, _size = ctypes.c_uint8, ctypes.c_uint16, ctypes.c_uint32, ctypes.c_uint64, ctypes.c_size_t
+_u8, _u16, _u32, _size = ctypes.c_uint8, ctypes.c_uint16, ctypes.c_uint32, ctypes.c_size_t
 _lent: list[Any] = [ctypes.c_void_p, _size]  # a pointer, and its length behind it
 
 # include/siljuvatt.h has the declarations in C.
@@ -315,7 +256,6 @@ _ARGUMENTS: dict[str, list[Any]] = {
     "close": [*_lent, _size],
     "receive": [*_lent, *_lent, _u8, *_lent],
     "read": [*_lent, *_lent, _size, ctypes.POINTER(_size)],
-    "tally": [*_lent, _size, ctypes.POINTER(_u64)],
     "filter_accepts": [_u16, _u16, _u16],
     "row_accepts": [ctypes.c_void_p, _u16],
     "master_new": _lent,
@@ -527,8 +467,8 @@ class Station:
     """Up to sixteen streams of one format.
 
     The packets lie in a store of 32,768 bytes: one of the station's own, or any writable buffer that is lent to it, as
-    a bytearray or an mmap. The station itself is 242 bytes: bytes(station), and Station.from_bytes makes it again of
-    them and the store. Stations are equal if these bytes, which have the tallies too, and their stores are.
+    a bytearray or an mmap. The station itself is 130 bytes: bytes(station), and Station.from_bytes makes it again of
+    them and the store. Stations are equal if these bytes and their stores are.
 
     >>> station = Station(Format.EXTENDED)
     >>> station.open(Bus.B, ExtendedFields(priority=0, source=6, group=0, destination=0, function=2))
@@ -541,8 +481,6 @@ class Station:
     Filtered()
     >>> station
     <Station EXTENDED: slot 0 done, 1 bytes>
-    >>> station.tallies.named["packet"], station.tallies.filtered
-    (1, 1)
     """
 
     def __init__(self, format: int = Format.EXTENDED, store: Any = None) -> None:
@@ -561,11 +499,7 @@ class Station:
 
     @classmethod
     def from_bytes(cls, data: Any, store: Any) -> Station:
-        """The station that these bytes are, with the store that it had: a packet lies in it. Refused: STATE.
-
-        Bytes of layout 1, the one before, were 130 and had no tallies. They are carried over as
-        old[:129] + bytes([STATION_LAYOUT]) + bytes(8 * TALLIES).
-        """
+        """The station that these bytes are, with the store that it had: a packet lies in it. Refused: STATE."""
         station = cls.__new__(cls)
         station._state = _sound(data, Refusal.CLOSED, "close", _NO_SLOT)
         station._lend(store)
@@ -603,8 +537,7 @@ class Station:
 
         A count of 9 to 15 in the image is read as 8, in both formats: it says eight data bytes (ISO 11898-1, classical
         CAN), of which a standard start, middle or end has its number first. Nothing keeps which count it was.
-        The image is counted (tallies), also if it is refused for itself or for its stream, from LENGTH on.
-        Refused: STORE, FIELD (the bus), TALLY, LENGTH, FORM, REMOTE, COUNT, SURPLUS, PIECE, ORPHAN, STEP, LONG.
+        Refused: STORE, FIELD (the bus), LENGTH, FORM, REMOTE, COUNT, SURPLUS, PIECE, ORPHAN, STEP, LONG.
         """
         answer = _accepted(_library().siljuvatt_receive(
             self._state, STATION_SIZE, self._store, self._store_size, _byte(bus), *_given(image)))
@@ -632,20 +565,6 @@ class Station:
     def read_bytes(self, slot: int) -> bytes:
         """The packet of a slot, copied: it stays as it is. Refused as read."""
         return bytes(self.read(slot))
-
-    def _tally(self, index: int) -> int:
-        value = _u64(0)
-        _accepted(_library().siljuvatt_tally(self._state, STATION_SIZE, index, ctypes.byref(value)))
-        return value.value
-
-    @property
-    def tallies(self) -> Tallies:
-        """What the station has counted since it was new, as it is now.
-
-        An image raises the one tally of its answer by one, and nothing else moves one. Where a tally stands at 2^64 - 1
-        no image is received: TALLY.
-        """
-        return Tallies(*map(self._tally, range(TALLIES)))
 
 
 # ---- Acceptance filters ----

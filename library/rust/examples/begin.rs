@@ -1,5 +1,5 @@
-//! What to begin with: a packet is split, a station joins its pieces while a frame is lost and sent again, and tells what
-//! it has counted; a master leads a command over both buses; a watch tells of a silent bus.
+//! What to begin with: a packet is split, a station joins its pieces while a frame is lost and sent again; a master
+//! leads a command over both buses; a watch tells of a silent bus.
 //!
 //! usage: cargo run --example begin
 
@@ -42,13 +42,7 @@ fn receive(out: &mut impl Write) -> Result<(), Box<dyn Error>> {
     }
     // The packet is the part of the store itself. It is bytes, and the serial keeps its zeros.
     let packet = station.read(&store, slot)?;
-    writeln!(out, "{}", String::from_utf8_lossy(packet))?;
-
-    // What became of the frames, counted by the station.
-    for (name, tally) in station.tallies()?.named().filter(|&(_, tally)| tally > 0) {
-        writeln!(out, "tally: {name} {tally}")?;
-    }
-    Ok(())
+    Ok(writeln!(out, "{}", String::from_utf8_lossy(packet))?)
 }
 
 /// A master sends a command to node 22, which hears bus B alone.

@@ -34,7 +34,6 @@ impl Bench {
         let fields = fields_of(image);
         let key = Key { bus, fields };
         if reply == Reply::Filtered && self.slots.len() < Station::SLOTS {
-            // From here on it is received. The station has counted it as filtered too.
             self.slots.insert(key, self.station.open(key)?);
             reply = self.station.receive(&mut self.store, bus, image)?;
         }

@@ -1,12 +1,11 @@
 //! Satellite avionics units on their two CAN lines, to GB/T 43671-2024: frames of both formats, split and joined; up to
-//! sixteen streams a [`Station`], and a tally of each of its answers; acceptance filters ([`Filter`], [`Row`]); a
-//! [`Master`]'s exchanges over both buses; a [`Watch`] for a bus gone silent.
+//! sixteen streams a [`Station`]; acceptance filters ([`Filter`], [`Row`]); a [`Master`]'s exchanges over both buses; a
+//! [`Watch`] for a bus gone silent.
 //!
-//! The functions behind this crate are proved to answer as document 01 of the order says, with requests L3 to L5 of its
-//! document 02, for every input. The crate itself is thin, and tested: it hands slices to those functions and names
+//! The functions behind this crate are proved to answer as document 01 of the order says, with requests L3 and L4 of
+//! its document 02, for every input. The crate itself is thin, and tested: it hands slices to those functions and names
 //! their answers. No call asks anything of its caller; what cannot be done is a [`Refusal`], and nothing has changed
-//! then, but for the tally of an image that was judged ([`Tallies`]), and for the stream that lost its place
-//! ([`Refusal::Step`], [`Refusal::Long`]).
+//! then, but for the stream that lost its place ([`Refusal::Step`], [`Refusal::Long`]).
 //!
 //! ```
 //! use siljuvatt::{pieces, Bus, Fields, Format, Key, Reply, Station, Store};
@@ -64,7 +63,6 @@ mod split;
 mod station;
 #[cfg(feature = "alloc")]
 mod store;
-mod tallies;
 mod version;
 mod watch;
 
@@ -76,7 +74,6 @@ pub use split::{piece_count, pieces, write_piece, Image, Pieces};
 pub use station::{Reply, Station};
 #[cfg(feature = "alloc")]
 pub use store::Store;
-pub use tallies::Tallies;
 pub use version::{version, Version, VERSION};
 pub use watch::{Silent, Watch};
 

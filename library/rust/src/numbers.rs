@@ -45,9 +45,9 @@ numbers! {
     STANDARD_IMAGE: usize = 10;
 
     /// The bytes of a station.
-    STATION_SIZE: usize = 242;
-    /// Byte 129 of a station: the number of its layout.
-    STATION_LAYOUT: u8 = 2;
+    STATION_SIZE: usize = 130;
+    /// The last byte of a station: the number of its layout.
+    STATION_LAYOUT: u8 = 1;
     /// The slots of a station.
     SLOTS: usize = 16;
     /// The bytes of a store.
@@ -60,37 +60,6 @@ numbers! {
     KEPT: u8 = 5;
     /// Kind of an answer to a frame: no slot is open with its key.
     FILTERED: u8 = 6;
-
-    /// Index of a tally: a packet, with none dropped.
-    TALLY_PACKET: usize = 0;
-    /// Index of a tally: a packet, and an older one dropped.
-    TALLY_PACKET_BROKE: usize = 1;
-    /// Index of a tally: kept, with no packet dropped.
-    TALLY_KEPT: usize = 2;
-    /// Index of a tally: kept, and an older packet dropped.
-    TALLY_KEPT_BROKE: usize = 3;
-    /// Index of a tally: filtered.
-    TALLY_FILTERED: usize = 4;
-    /// Index of a tally: refused 1 LENGTH.
-    TALLY_REFUSED_1: usize = 5;
-    /// Index of a tally: refused 2 FORM.
-    TALLY_REFUSED_2: usize = 6;
-    /// Index of a tally: refused 3 REMOTE.
-    TALLY_REFUSED_3: usize = 7;
-    /// Index of a tally: refused 4 COUNT.
-    TALLY_REFUSED_4: usize = 8;
-    /// Index of a tally: refused 5 PIECE.
-    TALLY_REFUSED_5: usize = 9;
-    /// Index of a tally: refused 6 ORPHAN.
-    TALLY_REFUSED_6: usize = 10;
-    /// Index of a tally: refused 7 STEP.
-    TALLY_REFUSED_7: usize = 11;
-    /// Index of a tally: refused 8 LONG.
-    TALLY_REFUSED_8: usize = 12;
-    /// Index of a tally: refused 25 SURPLUS.
-    TALLY_REFUSED_25: usize = 13;
-    /// The tallies of a station.
-    TALLIES: usize = 14;
 
     /// The bytes of a row of filters.
     ROW_SIZE: usize = 8;

@@ -25,7 +25,6 @@ macro_rules! calls {
             siljuvatt_read as read(
                 station[station_length]: &[u8], store[store_length]: &[u8], slot: usize, start: &mut usize
             ) -> u32;
-            siljuvatt_tally as tally(station[station_length]: &[u8], index: usize, value: &mut u64) -> u32;
             siljuvatt_filter_accepts as filter_accepts(code: u16, mask: u16, id: u16) -> bool;
             siljuvatt_row_accepts as row_accepts(row: &[u8; 8], id: u16) -> bool;
             siljuvatt_master_new as master_new(master[master_length]: &mut [u8]) -> u32;
@@ -80,11 +79,7 @@ macro_rules! handed_alone {
 }
 
 handed_alone!(u8 as u8, u16 as u16, u32 as u32, usize as usize);
-handed_alone!(
-    &[u8; 8] as *const [u8; 8],
-    &mut usize as *mut usize,
-    &mut u64 as *mut u64
-);
+handed_alone!(&[u8; 8] as *const [u8; 8], &mut usize as *mut usize);
 
 /// What a call answers.
 pub trait Answer {

@@ -93,7 +93,7 @@ refusals! {
     Long = 8, "LONG", "the packet would pass 2,048 bytes; the stream is idle now";
     Field = 9, "FIELD", "a format, field, bus, kind or node is out of range, or the fields are of another format";
     Size = 10, "SIZE", "the packet is over the format's limit";
-    Index = 11, "INDEX", "there is no piece k, or no tally of that index";
+    Index = 11, "INDEX", "there is no piece k";
     Room = 12, "ROOM", "the output is shorter than the image";
     Store = 13, "STORE", "the store is not 32,768 bytes";
     Taken = 14, "TAKEN", "the key is open already";
@@ -105,7 +105,6 @@ refusals! {
     NotAwaited = 20, "NOTAWAITED", "the reply does not count";
     State = 21, "STATE", "the bytes are no sound station, master or watch of this release's layout";
     Surplus = 25, "SURPLUS", "the image is longer than its count says";
-    Tally = 26, "TALLY", "a tally of the station stands at its largest value";
 }
 
 impl fmt::Display for Refusal {

@@ -3,7 +3,7 @@
 use crate::answer::Answer;
 use crate::numbers;
 use crate::raw::slices;
-use crate::{Bus, Format, Key, Refusal, Tallies};
+use crate::{Bus, Format, Key, Refusal};
 use core::fmt;
 
 // Over the last slot, so that closing it is refused: STATE if the station is not sound, else CLOSED.
@@ -26,13 +26,12 @@ pub enum Reply {
         /// Whether an older packet of the stream was not whole and is dropped.
         broke: bool,
     },
-    /// No slot is open with the frame's key; nothing has changed but the tally of such frames.
+    /// No slot is open with the frame's key; nothing has changed.
     Filtered,
 }
 
-/// A station of one format with sixteen slots, and a tally of each of its answers. It is 242 bytes and nothing else: it
-/// may be copied, written to a file and made again from its bytes. Byte 129 is the number of their layout: a release
-/// reads its own.
+/// A station of one format with sixteen slots. It is 130 bytes and nothing else: it may be copied, written to a file
+/// and made again from its bytes. The last byte is the number of their layout: a release reads its own.
 ///
 /// Its packets lie in a store of 32,768 bytes that each call is lent: a [`Store`](crate::Store), or any slice.
 ///
@@ -63,13 +62,13 @@ impl Station {
     /// The bytes of a station.
     pub const SIZE: usize = numbers::STATION_SIZE;
 
-    /// Byte 129 of them: the number of their layout.
+    /// The last of them: the number of their layout.
     pub const LAYOUT: u8 = numbers::STATION_LAYOUT;
 
     /// The slots of a station, numbered from 0 on.
     pub const SLOTS: usize = numbers::SLOTS;
 
-    /// A station whose slots are all closed, and whose tallies are all 0.
+    /// A station whose slots are all closed.
     #[must_use]
     pub fn new(format: Format) -> Station {
         let mut bytes = [0; Station::SIZE];
@@ -82,8 +81,7 @@ impl Station {
     ///
     /// # Errors
     ///
-    /// [`Refusal::State`] if they are no sound station of this release's layout. A station of layout 1, the one before,
-    /// was 130 bytes and had no tallies; it is carried over with its streams and its store, as here.
+    /// [`Refusal::State`] if they are no sound station of this release's layout.
     ///
     /// ```
     /// use siljuvatt::{Format, Refusal, Station};
@@ -91,17 +89,6 @@ impl Station {
     /// let station = Station::new(Format::Standard);
     /// assert_eq!(Station::from_bytes(station.as_bytes()), Ok(station));
     /// assert_eq!(Station::from_bytes(b"no station"), Err(Refusal::State));
-    ///
-    /// fn carried_over(old: &[u8; 130]) -> Result<Station, Refusal> {
-    ///     let mut bytes = [0; Station::SIZE];
-    ///     bytes[..130].copy_from_slice(old);
-    ///     bytes[129] = Station::LAYOUT;
-    ///     Station::from_bytes(&bytes)
-    /// }
-    /// let mut old = [0; 130];
-    /// old[128..].copy_from_slice(&[1, 1]); // standard, of layout 1
-    /// assert_eq!(Station::from_bytes(&old), Err(Refusal::State));
-    /// assert_eq!(carried_over(&old), Ok(Station::new(Format::Standard)));
     /// ```
     pub fn from_bytes(bytes: &[u8]) -> Result<Station, Refusal> {
         let mut bytes: [u8; Station::SIZE] = bytes.try_into().map_err(|_| Refusal::State)?;
@@ -148,8 +135,7 @@ impl Station {
         Answer(answer).accepted().map(drop)
     }
 
-    /// Receives the image of a frame on a bus. Only the area of the slot with the frame's key is written to. The image
-    /// is counted, also if it is refused for itself or for its stream: [`Station::tallies`].
+    /// Receives the image of a frame on a bus. Only the area of the slot with the frame's key is written to.
     ///
     /// A count of 9 to 15 in the image is read as 8, in both formats: it says eight data bytes (ISO 11898-1, classical
     /// CAN), of which a standard start, middle or end has its number first. Nothing keeps which count it was.
@@ -175,9 +161,9 @@ impl Station {
     ///
     /// # Errors
     ///
-    /// In this order: [`Refusal::Store`], [`Refusal::Tally`]; of the image [`Refusal::Length`], [`Refusal::Form`],
-    /// [`Refusal::Remote`], [`Refusal::Count`], [`Refusal::Surplus`], [`Refusal::Piece`]; of the stream
-    /// [`Refusal::Orphan`], [`Refusal::Step`], [`Refusal::Long`].
+    /// In this order: [`Refusal::Store`]; of the image [`Refusal::Length`], [`Refusal::Form`], [`Refusal::Remote`],
+    /// [`Refusal::Count`], [`Refusal::Surplus`], [`Refusal::Piece`]; of the stream [`Refusal::Orphan`],
+    /// [`Refusal::Step`], [`Refusal::Long`].
     pub fn receive(&mut self, store: &mut [u8], bus: Bus, image: &[u8]) -> Result<Reply, Refusal> {
         let answer = slices::receive(&mut self.bytes, store, bus.number(), image);
         reply_of(Answer(answer))
@@ -206,38 +192,6 @@ impl Station {
         let answer = Answer(answer).accepted()?;
         let packet = store.get(start..).and_then(|at| at.get(..answer.number()));
         packet.ok_or(answer.unknown())
-    }
-
-    /// What the station has counted since it was new: how often [`Station::receive`] gave each answer, with and without
-    /// an older packet dropped, and each refusal that an image can have. An image raises the one tally of its answer,
-    /// and nothing else moves one. Where a tally stands at [`u64::MAX`] no image is received: [`Refusal::Tally`].
-    ///
-    /// # Errors
-    ///
-    /// None of a library of this release.
-    ///
-    /// ```
-    /// use siljuvatt::{Bus, Format, Refusal, Station, Store};
-    ///
-    /// let mut station = Station::new(Format::Extended);
-    /// let mut store = Store::new();
-    /// for image in [&b"\x81\x06\x00\xC0\x10\x39"[..], b"\xC0\x06\x00\xC0\x10", b"\xC0\x06\x00\xC0\x10"] {
-    ///     let _ = station.receive(&mut store, Bus::B, image);
-    /// }
-    /// let tallies = station.tallies()?;
-    /// assert_eq!((tallies.filtered, tallies.refused_3), (1, 2));
-    /// assert_eq!(tallies.total(), 3);
-    /// for (name, tally) in tallies.named() {
-    ///     println!("{name} {tally}"); // packet 0, packet broke 0 and so on, to refused 25 0
-    /// }
-    /// # Ok::<(), Refusal>(())
-    /// ```
-    pub fn tallies(&self) -> Result<Tallies, Refusal> {
-        Tallies::told(|index| {
-            let mut value = 0;
-            let answer = Answer(slices::tally(&self.bytes, index, &mut value));
-            answer.accepted().map(|_| value)
-        })
     }
 }
 

@@ -15,9 +15,6 @@ piece 0: kept
 piece 1: kept
 piece 2: packet of 23 bytes
 serial 004127019 lot 07
-tally: packet 1
-tally: kept 3
-tally: refused 7 1
 command: send on bus A
 command: send on bus A
 command: send on bus B

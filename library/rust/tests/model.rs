@@ -91,9 +91,6 @@ impl Pair {
             self.store[..] == self.model_store[..],
             "{image:02X?} is stored otherwise"
         );
-        let tallies = self.station.tallies().unwrap();
-        let values = tallies.named().map(|(_, tally)| tally);
-        assert!(values.eq(self.model.tallies.0), "{image:02X?}: {tallies:?}");
         match answer {
             Ok(Reply::Packet { broke, .. }) => format!("packet, broke {broke}"),
             Ok(Reply::Kept { broke }) => format!("kept, broke {broke}"),

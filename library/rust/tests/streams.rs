@@ -291,7 +291,7 @@ fn bytes_that_are_no_sound_station_are_refused() {
     );
     refused(&|bytes| bytes[128] = 2); // a format that is none
     assert_eq!(sound[129], Station::LAYOUT);
-    for layout in [0, 1, 3, 255] {
+    for layout in [0, 2, 255] {
         refused(&|bytes| bytes[129] = layout); // another layout
     }
     refused(&|bytes| bytes[1] = 64); // a source out of range
@@ -299,11 +299,6 @@ fn bytes_that_are_no_sound_station_are_refused() {
     refused(&|bytes| bytes[6] = 4); // a progress that is none
     refused(&|bytes| bytes[4..7].copy_from_slice(&[9, 0, 2])); // 9 bytes held in extended
     refused(&|bytes| bytes[4..7].copy_from_slice(&[1, 8, 3])); // a packet of 2,049 bytes
-    assert_eq!(
-        Station::from_bytes(&sound[..130]).err(),
-        Some(Refusal::State),
-        "without tallies"
-    );
 }
 
 /// Streams on two threads: a station is a value like any other.

@@ -1,6 +1,6 @@
 //! The calls of the library for C, over bytes and numbers, with its answers.
 //!
-//! Written from the library's header and document 01, with L3, L4 and L5 of document 02,
+//! Written from the library's header and document 01, with L3 and L4 of document 02,
 //! so that the library can be compared with it call by call. Where C has a pointer and a length there
 //! is a slice here.
 
@@ -12,7 +12,6 @@ mod watch_bytes;
 pub use answer::{refused, DONE, FILTERED, GAVE_UP, KEPT, PACKET, SEND};
 pub use master_bytes::{master_bytes, master_of, MASTER_LAYOUT, MASTER_SIZE};
 pub use station_bytes::{station_bytes, station_of, STATION_LAYOUT, STATION_SIZE};
-pub use station_bytes::{FORMAT_AT, LAYOUT_AT, TALLIES_AT, TALLY_SIZE};
 pub use watch_bytes::{watch_bytes, watch_of, WATCH_LAYOUT, WATCH_SIZE};
 
 use crate::filter::{Filter, Pair};
@@ -27,7 +26,7 @@ use crate::watch::Watch;
 use answer::{exchange_answer, number_or_refusal, receive_answer, reset_answer};
 
 /// The release: major, minor and patch.
-const RELEASE: [u8; 3] = [0, 3, 0];
+const RELEASE: [u8; 3] = [0, 2, 0];
 
 pub fn version() -> u32 {
     let [major, minor, patch] = RELEASE.map(u32::from);
@@ -136,20 +135,6 @@ pub fn read(station: &[u8], store: &[u8], slot: usize, start: &mut usize) -> u32
         *start = slot * AREA_SIZE;
     }
     number_or_refusal(length)
-}
-
-pub fn tally(station: &[u8], index: usize, value: &mut u64) -> u32 {
-    let tally = sound_station(station).and_then(|station| {
-        let tally = station.tallies.0.get(index);
-        tally.copied().ok_or(Refusal::Index)
-    });
-    match tally {
-        Ok(tally) => {
-            *value = tally;
-            0
-        }
-        Err(refusal) => refused(refusal),
-    }
 }
 
 pub fn filter_accepts(code: u16, mask: u16, id: u16) -> bool {

@@ -1,11 +1,10 @@
-//! A station as bytes: sixteen records of two numbers, the format, the number of
-//! this layout, and the tallies.
+//! A station as bytes: sixteen records of two numbers, then the format and the
+//! number of this layout.
 
 use crate::format::Format;
 use crate::key::{Fields, Key};
 use crate::station::{Slot, Station, SLOT_COUNT};
 use crate::stream::State;
-use crate::tally::{Tallies, TALLY_COUNT};
 
 use super::format_of;
 
@@ -13,23 +12,13 @@ use super::format_of;
 const RECORD_SIZE: usize = 8;
 
 /// The place of the format, behind the records.
-pub const FORMAT_AT: usize = SLOT_COUNT * RECORD_SIZE;
-
-/// The place of the layout's number. That of the former release, whose states
-/// ended with it, had the number 1 in the same place.
-pub const LAYOUT_AT: usize = FORMAT_AT + 1;
-
-/// The place of the tallies.
-pub const TALLIES_AT: usize = LAYOUT_AT + 1;
-
-/// The bytes of a tally.
-pub const TALLY_SIZE: usize = 8;
+const FORMAT_AT: usize = SLOT_COUNT * RECORD_SIZE;
 
 /// The bytes of a station.
-pub const STATION_SIZE: usize = TALLIES_AT + TALLY_COUNT * TALLY_SIZE;
+pub const STATION_SIZE: usize = FORMAT_AT + 2;
 
 /// The number of their layout.
-pub const STATION_LAYOUT: u8 = 2;
+pub const STATION_LAYOUT: u8 = 1;
 
 /// Set in the key's number of every standard key.
 const STANDARD_MARK: u32 = 16_384;
@@ -51,17 +40,13 @@ pub fn station_bytes(station: &Station) -> [u8; STATION_SIZE] {
         Format::Extended => 0,
         Format::Standard => 1,
     };
-    bytes[FORMAT_AT..TALLIES_AT].copy_from_slice(&[format, STATION_LAYOUT]);
-    let places = bytes[TALLIES_AT..].chunks_exact_mut(TALLY_SIZE);
-    for (place, tally) in places.zip(station.tallies.0) {
-        place.copy_from_slice(&tally.to_le_bytes());
-    }
+    bytes[FORMAT_AT..].copy_from_slice(&[format, STATION_LAYOUT]);
     bytes
 }
 
 /// The station of bytes; none where no station has them. It may be unsound.
 pub fn station_of(bytes: &[u8]) -> Option<Station> {
-    if bytes.len() != STATION_SIZE || bytes[LAYOUT_AT] != STATION_LAYOUT {
+    if bytes.len() != STATION_SIZE || bytes[STATION_SIZE - 1] != STATION_LAYOUT {
         return None;
     }
     let format = format_of(bytes[FORMAT_AT])?;
@@ -72,24 +57,14 @@ pub fn station_of(bytes: &[u8]) -> Option<Station> {
         .zip(bytes.chunks_exact(RECORD_SIZE))
     {
         let (key, state) = record.split_at(RECORD_SIZE / 2);
-        *slot = slot_of(format, number(key) as u32, number(state) as u32)?;
+        *slot = slot_of(format, number(key), number(state))?;
     }
-    station.tallies = tallies_of(&bytes[TALLIES_AT..]);
     Some(station)
 }
 
-/// The tallies of the bytes behind the layout. Any bytes are tallies.
-fn tallies_of(bytes: &[u8]) -> Tallies {
-    let mut tallies = Tallies::new();
-    for (tally, place) in tallies.0.iter_mut().zip(bytes.chunks_exact(TALLY_SIZE)) {
-        *tally = number(place);
-    }
-    tallies
-}
-
-fn number(bytes: &[u8]) -> u64 {
+fn number(bytes: &[u8]) -> u32 {
     let low_first = bytes.iter().rev();
-    low_first.fold(0, |number, &byte| number << 8 | u64::from(byte))
+    low_first.fold(0, |number, &byte| number << 8 | u32::from(byte))
 }
 
 /// The two numbers of a slot's record.
@@ -238,38 +213,10 @@ mod tests {
         };
         let bytes = station_bytes(&station);
         assert_eq!(bytes[16..24], [0x82, 0x56, 1, 0, 0x23, 0x01, 3, 0]);
-        assert_eq!(bytes[128..130], [1, 2]);
+        assert_eq!(bytes[128..], [1, 1]);
         let rest = |i: &usize| !(16..24).contains(i);
         assert!((0..128).filter(rest).all(|i| bytes[i] == 0));
-        assert_eq!(bytes[130..], [0; 112]);
         assert_eq!(station_of(&bytes), Some(station));
-    }
-
-    #[test]
-    fn tallies_lie_low_byte_first_behind_the_layout() {
-        for format in [Format::Extended, Format::Standard] {
-            let mut station = Station::new(format);
-            station.tallies.0[0] = 0x0807_0605_0403_0201;
-            station.tallies.0[1] = u64::MAX - 1;
-            station.tallies.0[13] = 1 << 63;
-            let bytes = station_bytes(&station);
-            assert_eq!(bytes[130..138], [1, 2, 3, 4, 5, 6, 7, 8]);
-            assert_eq!(bytes[138..146], [254, 255, 255, 255, 255, 255, 255, 255]);
-            assert_eq!(bytes[146..234], [0; 88]);
-            assert_eq!(bytes[234..], [0, 0, 0, 0, 0, 0, 0, 128]);
-            assert_eq!(station_of(&bytes), Some(station));
-        }
-    }
-
-    #[test]
-    fn any_tallies_are_a_sound_stations() {
-        for byte in [0, 1, 127, 255] {
-            let mut bytes = station_bytes(&Station::new(Format::Extended));
-            bytes[130..].fill(byte);
-            let station = station_of(&bytes).expect("a station");
-            assert!(station.is_sound());
-            assert_eq!(station_bytes(&station), bytes);
-        }
     }
 
     #[test]
@@ -308,27 +255,18 @@ mod tests {
     }
 
     #[test]
-    fn only_242_bytes_with_a_format_and_this_layout_are_a_station() {
+    fn only_130_bytes_with_a_format_and_this_layout_are_a_station() {
         let mut bytes = station_bytes(&Station::new(Format::Extended)).to_vec();
         assert!(station_of(&bytes).is_some());
-        assert!(station_of(&bytes[..241]).is_none());
-        for (format, layout) in [(2, 2), (0, 0), (0, 1), (1, 1), (0, 3), (0, 255)] {
-            bytes[128..130].copy_from_slice(&[format, layout]);
+        assert!(station_of(&bytes[..129]).is_none());
+        for (format, layout) in [(2, 1), (0, 0), (1, 0), (0, 2), (0, 255)] {
+            bytes[128..].copy_from_slice(&[format, layout]);
             assert!(station_of(&bytes).is_none());
         }
-        bytes[128..130].copy_from_slice(&[1, 2]);
+        bytes[128..].copy_from_slice(&[1, 1]);
         assert!(station_of(&bytes).is_some());
-        bytes.push(2);
+        bytes.push(1);
         assert!(station_of(&bytes).is_none());
         assert!(station_of(&[]).is_none());
-    }
-
-    #[test]
-    fn a_state_of_the_former_release_is_no_station() {
-        for layout in [1, 2] {
-            let mut bytes = [0; 130];
-            bytes[129] = layout;
-            assert!(station_of(&bytes).is_none());
-        }
     }
 }

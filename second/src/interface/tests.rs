@@ -11,8 +11,6 @@ const COUNT: u32 = 0x8000_0004;
 const SURPLUS: u32 = 0x8000_0019;
 const CLOSED: u32 = 0x8000_0010;
 const NOPACKET: u32 = 0x8000_0011;
-const INDEX: u32 = 0x8000_000B;
-const TALLY: u32 = 0x8000_001A;
 
 fn new_station(format: u8) -> Vec<u8> {
     let mut station = vec![0xFF; STATION_SIZE];
@@ -24,18 +22,14 @@ fn new_station(format: u8) -> Vec<u8> {
 fn a_new_station_is_all_0_but_for_format_and_layout() {
     for format in [0, 1] {
         assert_eq!(new_station(format)[..128], [0; 128]);
-        assert_eq!(new_station(format)[128..130], [format, 2]);
-        assert_eq!(new_station(format)[130..], [0; 112]);
+        assert_eq!(new_station(format)[128..], [format, 1]);
     }
-    // 130 bytes were a station of the former release.
-    for length in [130, 241, 243] {
-        let mut other = vec![7; length];
-        assert_eq!(station_new(&mut other, 9), STATE);
-        assert_eq!(other, vec![7; length]);
-    }
-    let mut bytes = [7; 242];
+    let mut short = [7; 129];
+    assert_eq!(station_new(&mut short, 9), STATE);
+    assert_eq!(short, [7; 129]);
+    let mut bytes = [7; 130];
     assert_eq!(station_new(&mut bytes, 2), FIELD);
-    assert_eq!(bytes, [7; 242]);
+    assert_eq!(bytes, [7; 130]);
 }
 
 #[test]
@@ -73,16 +67,13 @@ fn a_code_over_8_is_received_as_8() {
         let mut station = new_station(format as u8);
         let mut store = vec![0xAA; STORE_SIZE];
         assert_eq!(open(&mut station, 0, fields), 0);
-        let mut idle = station.clone();
+        let idle = station.clone();
         let short = &image[..image.len() - 1];
         assert_eq!(receive(&mut station, &mut store, 0, short), COUNT);
         // With a code of 7 in the place of 12 the image is too long.
         let mut long = image.to_vec();
         long[format] ^= 0x0C ^ 0x07;
         assert_eq!(receive(&mut station, &mut store, 0, &long), SURPLUS);
-        // But for the tallies of 4 and 25 nothing changes.
-        idle[TALLIES_AT + 8 * 8] = 1;
-        idle[TALLIES_AT + 8 * 13] = 1;
         assert_eq!((&station, store[0]), (&idle, 0xAA));
         assert_eq!(receive(&mut station, &mut store, 0, image), 0x0004_0008);
         assert_eq!(store[..9], [1, 2, 3, 4, 5, 6, 7, 8, 0xAA]);
@@ -103,92 +94,17 @@ fn refusals_of_a_station_come_in_order() {
     assert_eq!(read(&station, &store, usize::MAX, &mut start), CLOSED);
     assert_eq!(open(&mut station, 0, &[0, 0, 0, 0, 0]), FIELD);
     assert_eq!(open(&mut station, 0, &[]), FIELD);
-    assert_eq!(station[..TALLIES_AT], sound[..TALLIES_AT]);
+    assert_eq!(station, sound);
     station[0] = 1;
     store.push(0);
     assert_eq!(receive(&mut station, &mut store, 2, &[]), STATE);
     assert_eq!(open(&mut station, 2, &[]), STATE);
     assert_eq!(close(&mut station, 99), STATE);
     assert_eq!(read(&station, &store, 99, &mut start), STATE);
-    for layout in [0, 1, 3] {
-        station.clone_from(&sound);
-        station[LAYOUT_AT] = layout;
-        assert_eq!(close(&mut station, 99), STATE);
-    }
+    station.clone_from(&sound);
+    station[STATION_SIZE - 1] = 2;
+    assert_eq!(close(&mut station, 99), STATE);
     assert_eq!(start, 9);
-}
-
-/// All tallies, each by its call.
-fn tallies(station: &[u8]) -> Vec<u64> {
-    (0..14)
-        .map(|index| {
-            let mut value = 99;
-            assert_eq!(tally(station, index, &mut value), 0);
-            value
-        })
-        .collect()
-}
-
-#[test]
-fn tallies_are_read_one_by_one() {
-    let mut station = new_station(0);
-    let mut store = vec![0; STORE_SIZE];
-    assert_eq!(tallies(&station), [0; 14]);
-    assert_eq!(receive(&mut station, &mut store, 0, &[]), LENGTH);
-    let single = [0x81, 0x45, 0, 0xC0, 0x10, 7];
-    for _ in 0..3 {
-        let filtered = receive(&mut station, &mut store, 0, &single);
-        assert_eq!(filtered, 0x0006_0000);
-    }
-    assert_eq!(receive(&mut station, &mut store, 2, &single), FIELD);
-    assert_eq!(
-        tallies(&station),
-        [0, 0, 0, 0, 3, 1, 0, 0, 0, 0, 0, 0, 0, 0]
-    );
-    station[TALLIES_AT + 8 * 13..].fill(0xFF);
-    let mut value = 0;
-    assert_eq!(tally(&station, 13, &mut value), 0);
-    assert_eq!(value, u64::MAX);
-}
-
-#[test]
-fn a_tally_is_refused_by_state_then_index() {
-    let mut station = new_station(1);
-    let mut value = 99;
-    for index in [14, 15, 256, 269, usize::MAX] {
-        assert_eq!(tally(&station, index, &mut value), INDEX);
-    }
-    station[LAYOUT_AT] = 1;
-    for index in [0, 13, 14] {
-        assert_eq!(tally(&station, index, &mut value), STATE);
-        assert_eq!(tally(&station[..130], index, &mut value), STATE);
-        assert_eq!(tally(&[], index, &mut value), STATE);
-    }
-    station[LAYOUT_AT] = 2;
-    // A key open twice: read as a station, but not sound.
-    open(&mut station, 0, &[0, 1, 0]);
-    station.copy_within(..8, 120);
-    assert_eq!(tally(&station, 14, &mut value), STATE);
-    assert_eq!(value, 99);
-}
-
-#[test]
-fn a_full_tally_refuses_every_image_and_no_byte_changes() {
-    for format in [0, 1] {
-        for index in 0..14 {
-            let mut station = new_station(format);
-            let place = TALLIES_AT + 8 * index;
-            station[place..place + 8].fill(0xFF);
-            let (full, mut store) = (station.clone(), vec![0; STORE_SIZE]);
-            assert_eq!(receive(&mut station, &mut store, 0, &[]), TALLY);
-            assert_eq!(receive(&mut station, &mut store, 2, &[]), FIELD);
-            assert_eq!(receive(&mut station, &mut [], 2, &[]), STORE);
-            assert_eq!(station, full);
-            // The lowest bit less: the tally is one below its largest value.
-            station[place] = 0xFE;
-            assert_eq!(receive(&mut station, &mut store, 0, &[]), LENGTH);
-        }
-    }
 }
 
 #[test]
@@ -282,6 +198,6 @@ fn a_watch() {
 }
 
 #[test]
-fn the_release_is_0_3_0() {
-    assert_eq!(version(), 768);
+fn the_release_is_0_2_0() {
+    assert_eq!(version(), 512);
 }

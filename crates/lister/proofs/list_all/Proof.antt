@@ -1,8 +1,7 @@
 -- `lister::list_all` meets its contract: after each round, what is still to be listed from where it stands is what was to be listed at first (Rounds).
 use Rattle.std.proofs.Common.{◌≡◌, ◌+◌, ◌-◌, ◌≤◌, length, drop, arith, length-drop, rules}
 use Rattle.trace.specs.Records.{whole, image_in, record_at}
-use Rattle.trace.proofs.Records.{seen}
-use Rattle.lister.proofs.Rounds.{Midst, midst, stops_empty, stops_cut, stops_damaged, stops-room, fits, goes_on, told_of}
+use Rattle.lister.proofs.Rounds.{Midst, midst, stops_empty, stops_cut, stops_damaged, stops-room, fits, goes_on, seen, told_of}
 use Rattle.lister.proofs.list_all.Statement.{statement}
 use Rattle.lister.proofs.list_all.Tie as tie
 
@@ -36,7 +35,7 @@ sizes c =
     let l = c.before.before.before.before.before.loop in
     let taken = c.before.before.before.before.before.before.before.before.before.before.args.input.now in
     let f = fits l.invariant _ _ _ (is-record c) in
-    record { least = omega (arith, f.0); most = omega (arith, l.invariant.in_input, f.1, length-drop l.used taken); bus = f.2 }
+    record { least = f.0; most = omega (arith, l.invariant.in_input, f.1, length-drop l.used taken); bus = f.2 }
 
 loop-holds : tie.Need-loop-init invariant-loop decreases-loop
 loop-holds c =

@@ -26,13 +26,13 @@ returns-2 : tie.Need-returns-2
 unfolding slot_sound all_true all_after
 returns-2 c =
     let k = c.before.before in
-    simp (k.before.before.before.occupancy.given.1, sym k.key-in-range.ensures ∙ c.before.if1.true, c.fits2.ensures)
+    simp (k.before.before.before.occupancy.given.1, sym k.key_in_range_lem.ensures ∙ c.before.if1.true, c.fits2.ensures)
 
 returns-3 : tie.Need-returns-3
 unfolding slot_sound all_true all_after
 returns-3 c =
     let k = c.before in
-    simp (k.before.before.before.occupancy.given.1, sym k.key-in-range.ensures ∙ c.if1.false)
+    simp (k.before.before.before.occupancy.given.1, sym k.key_in_range_lem.ensures ∙ c.if1.false)
 
 pub slot-sound-spec : {M : Type 1} → statement M
 slot-sound-spec =

@@ -1,5 +1,5 @@
 -- `station_bytes::new` meets its contract: all bytes are written.
-use mathlib.Core.Path.{◌∙◌, ap}
+use mathlib.Core.Path.{◌≡◌, ◌∙◌, sym, ap}
 use native.Mathlib.Omega.{arith}
 use borrow.Author.Tests.{eq-eqb, ne_eqb}
 use mathlib.Core.List.{List}
@@ -8,7 +8,7 @@ use lib.ListN.{set, replicate}
 use Rattle.format.specs.Refusals.{value}
 use Rattle.copying.proofs.Filling.{whole}
 use Rattle.station_bytes.specs.States.{layout_number}
-use Rattle.station_bytes.specs.Calls.{renewed}
+use Rattle.station_bytes.specs.Calls.{renewed, StateAfter}
 use Rattle.station_bytes.proofs.Places.{new_bytes}
 use borrow.Author.Rules.{rules}
 use Rattle.station_bytes.proofs.new.Statement.{statement}
@@ -43,7 +43,7 @@ returns-2 c = let a = c.before.before.before.before.before.before.before.before 
     let wrote =
     c.before.before.copy-in.ensures.1
     ∙ whole a.args.state.now _ (omega arith)
-    ∙ ap (λ (b : ℕ). set (set (replicate 242 0) 128 b) 129 layout_number) n
+    ∙ ap (λ (b : ℕ). set (set (replicate 130 0) 128 b) 129 layout_number) n
     ∙ new_bytes a.args.format in
     rw (eq-eqb _ _ c.before.before.before.before.before.before.if1.false)
     (ap (λ (l : List ℕ). record { answer = value 0; state = l }) wrote)

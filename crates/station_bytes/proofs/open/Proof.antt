@@ -38,7 +38,7 @@ returns-2 c = let f = c.before.before in
     let s = f.before.before in
     let a = s.before.before.before.before.before.args in
     open-field a.state.now _ (sound_of a.state.now _ _ s.before.sound_codes.ensures (not-false _ s.if1.false)) a.key
-    (rw (sym f.format-of.ensures) (sym c.before.key-in-range.ensures ∙ not-true _ c.if2.true))
+    (rw (sym f.format-of.ensures) (sym c.before.key_in_range_lem.ensures ∙ not-true _ c.if2.true))
 
 slice-aggregate-find-key : tie.Need-slice-aggregate-find-key
 slice-aggregate-find-key c = search rules
@@ -55,7 +55,7 @@ returns-3 c = let f = c.before.before.before.before.before in
     let a = s.before.before.before.before.before.args in
     let sound = sound_of a.state.now _ _ s.before.sound_codes.ensures (not-false _ s.if1.false) in
     open-taken a.state.now _ sound a.key
-    (rw (sym f.format-of.ensures) (sym c.before.before.before.before.key-in-range.ensures ∙ not-false _ c.before.before.before.if2.false))
+    (rw (sym f.format-of.ensures) (sym c.before.before.before.before.key_in_range_lem.ensures ∙ not-false _ c.before.before.before.if2.false))
     c.before.find_key.result
     (key_place a.state.now _ sound a.key c.before.find_key.result (rw (sym f.format-of.ensures) c.before.find_key.ensures))
     c.if3.true
@@ -75,7 +75,7 @@ returns-4 c = let k = c.before.before.before.before in
     let a = s.before.before.before.before.before.args in
     let sound = sound_of a.state.now _ _ s.before.sound_codes.ensures (not-false _ s.if1.false) in
     open_full a.state.now _ sound a.key
-    (rw (sym f.format-of.ensures) (sym k.before.before.before.key-in-range.ensures ∙ not-false _ k.before.before.if2.false))
+    (rw (sym f.format-of.ensures) (sym k.before.before.before.key_in_range_lem.ensures ∙ not-false _ k.before.before.if2.false))
     k.find_key.result
     (key_place a.state.now _ sound a.key k.find_key.result (rw (sym f.format-of.ensures) k.find_key.ensures))
     c.before.before.before.if3.false
@@ -99,7 +99,7 @@ returns-5 c = let l = c.before.before.before.before.before.before in
     let s = f.before.before in
     let a = s.before.before.before.before.before.args in
     let sound = sound_of a.state.now _ _ s.before.sound_codes.ensures (not-false _ s.if1.false) in
-    let ranged = sym k.before.before.before.key-in-range.ensures ∙ not-false _ k.before.before.if2.false in
+    let ranged = sym k.before.before.before.key_in_range_lem.ensures ∙ not-false _ k.before.before.if2.false in
     open-lowest a.state.now _ sound a.key
     (rw (sym f.format-of.ensures) ranged)
     k.find_key.result

@@ -1,5 +1,5 @@
 -- `trace::put_line` meets its contract, line by line.
-use Rattle.trace.specs.Lines.{line_text, header_line, count_line}
+use Rattle.trace.specs.Lines.{line_text, header_line}
 use borrow.Author.Rules.{rules}
 use Rattle.trace.proofs.put_line.Statement.{statement}
 use Rattle.trace.proofs.put_line.Tie as tie
@@ -34,11 +34,8 @@ put-stopped-requires c κs = search rules
 enum-known-line-4 : tie.Need-enum-known-line-4
 enum-known-line-4 c = search rules
 
-slice-aggregate-put-total : tie.Need-slice-aggregate-put-total
-slice-aggregate-put-total c = search rules
-
-put-total-requires : tie.Need-put-total-requires
-put-total-requires c κs = search rules
+put-records-requires : tie.Need-put-records-requires
+put-records-requires c κs = search rules
 
 returns : tie.Need-returns
 unfolding line_text header_line
@@ -57,8 +54,8 @@ unfolding line_text
 returns-4 c = rw c.before.before.before.line3.given.1 c.put-stopped.ensures
 
 returns-5 : tie.Need-returns-5
-unfolding line_text count_line
-returns-5 c = rw c.before.before.before.before.line4.given.1 c.put-total.ensures.0
+unfolding line_text
+returns-5 c = rw c.before.before.before.line4.given.1 c.put-records.ensures
 
 pub put-line-spec : {M : Type 1} → statement M
 put-line-spec =
@@ -74,8 +71,7 @@ put-line-spec =
     enum-known-line-3
     put-stopped-requires
     enum-known-line-4
-    slice-aggregate-put-total
-    put-total-requires
+    put-records-requires
     returns
     returns-2
     returns-3

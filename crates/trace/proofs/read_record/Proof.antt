@@ -1,6 +1,6 @@
 -- `trace::read_record` meets its contract: each test in its order (Reading).
 use native.Mathlib.Omega.{arith}
-use Rattle.trace.proofs.Reading.{at_none, at_one, at_length, at_least, at_cut, at-damaged, at-whole}
+use Rattle.trace.proofs.Reading.{at_none, at_one, at_length, at_least, at_cut, at-damaged, at_whole}
 use borrow.Author.Rules.{rules}
 use Rattle.trace.proofs.read_record.Statement.{statement}
 use Rattle.trace.proofs.read_record.Tie as tie
@@ -48,7 +48,7 @@ returns-5 c =
 returns-6 : tie.Need-returns-6
 returns-6 c =
     let e = c.before.before.before.before.before in let t = e.before.before.before in
-    at-whole t.before.before.before.args.input.now e.big_endian.result e.big_endian.ensures.0 t.if2.false c.before.before.before.before.if3.false c.before.before.before.if4.false c.if5.false
+    at_whole t.before.before.before.args.input.now e.big_endian.result e.big_endian.ensures.0 t.if2.false c.before.before.before.before.if3.false c.before.before.before.if4.false c.if5.false
 
 pub read-record-spec : {M : Type 1} → statement M
 read-record-spec =

@@ -1,5 +1,5 @@
 -- `calls_program::bench::respond` meets its contract.
-use Rattle.std.proofs.Common.{sym, arith, rules}
+use Rattle.std.proofs.Common.{sym, arith, rules, le-ltb, lt-ltb}
 use Rattle.calls_program.proofs.Benches.{empty, no_request, a_request}
 use Rattle.calls_program.proofs.Sizes.{done_fits}
 use Rattle.calls_program.specs.Benches.{request_done}
@@ -60,7 +60,7 @@ same-length-3 c = search rules
 
 returns-4 : tie.Need-returns-4
 unfolding request_done
-returns-4 c = done_fits c.before.before.before.before.before.before.before.before.before.before.before.before.before.before.before.before.before.before.args.bench c.before.before.before.before.before.before.before.before.before.before.before.before.before.before.before.before.before.before.args.bytes.now c.before.before.before.before.before.before.before.before.before.before.before.before.before.before.before.before.before.before.args.out.now c.before.before.before.before.before.before.before.before.before.before.before.before.before.before.before.before.before.before.args.request.now (λ i. omega (arith, c.before.before.before.before.before.before.before.before.before.before.before.before.before.shared-slice-known2.given i)) _ _ _ (a_request c.before.before.before.before.before.before.before.before.before.before.before.before.before.before.before.before.before.before.args.bench c.before.before.before.before.before.before.before.before.before.before.before.before.before.before.before.before.before.before.args.bytes.now c.before.before.before.before.before.before.before.before.before.before.before.before.before.before.before.before.before.before.args.out.now _ c.before.before.before.before.before.before.before.before.before.before.before.before.before.before.before.before.before.before.args.request.now c.before.before.before.before.before.before.before.before.before.before.before.before.before.before.if1.false c.before.before.before.before.before.before.before.before.before.before.before.is-request.ensures c.before.before.before.before.before.before.before.before.before.before.if2.false _ (simp (sym c.before.before.before.before.before.before.before.before.before.is_image_lem.ensures, c.before.before.before.before.before.before.before.before.if3.false, c.before.before.before.before.before.before.before.if4.true) c.before.before.before.before.change-desk.ensures))
+returns-4 c = done_fits c.before.before.before.before.before.before.before.before.before.before.before.before.before.before.before.before.before.before.args.bench c.before.before.before.before.before.before.before.before.before.before.before.before.before.before.before.before.before.before.args.bytes.now c.before.before.before.before.before.before.before.before.before.before.before.before.before.before.before.before.before.before.args.out.now c.before.before.before.before.before.before.before.before.before.before.before.before.before.before.before.before.before.before.args.request.now (λ i. omega (arith, c.before.before.before.before.before.before.before.before.before.before.before.before.before.shared-slice-known2.given i)) _ _ _ (a_request c.before.before.before.before.before.before.before.before.before.before.before.before.before.before.before.before.before.before.args.bench c.before.before.before.before.before.before.before.before.before.before.before.before.before.before.before.before.before.before.args.bytes.now c.before.before.before.before.before.before.before.before.before.before.before.before.before.before.before.before.before.before.args.out.now _ c.before.before.before.before.before.before.before.before.before.before.before.before.before.before.before.before.before.before.args.request.now c.before.before.before.before.before.before.before.before.before.before.before.before.before.before.if1.false c.before.before.before.before.before.before.before.before.before.before.before.is-request.ensures c.before.before.before.before.before.before.before.before.before.before.if2.false _ (simp (sym c.before.before.before.before.before.before.before.before.before.is_image_lem.ensures, c.before.before.before.before.before.before.before.before.if3.false, lt-ltb _ _ c.before.before.before.before.before.before.before.if4.true) c.before.before.before.before.change-desk.ensures))
 
 change-other-requires : tie.Need-change-other-requires
 change-other-requires c κs = search rules
@@ -70,7 +70,7 @@ same-length-4 c = search rules
 
 returns-5 : tie.Need-returns-5
 unfolding request_done
-returns-5 c = done_fits c.before.before.before.before.before.before.before.before.before.before.before.before.before.before.before.args.bench c.before.before.before.before.before.before.before.before.before.before.before.before.before.before.before.args.bytes.now c.before.before.before.before.before.before.before.before.before.before.before.before.before.before.before.args.out.now c.before.before.before.before.before.before.before.before.before.before.before.before.before.before.before.args.request.now (λ i. omega (arith, c.before.before.before.before.before.before.before.before.before.before.shared-slice-known2.given i)) _ _ _ (a_request c.before.before.before.before.before.before.before.before.before.before.before.before.before.before.before.args.bench c.before.before.before.before.before.before.before.before.before.before.before.before.before.before.before.args.bytes.now c.before.before.before.before.before.before.before.before.before.before.before.before.before.before.before.args.out.now _ c.before.before.before.before.before.before.before.before.before.before.before.before.before.before.before.args.request.now c.before.before.before.before.before.before.before.before.before.before.before.if1.false c.before.before.before.before.before.before.before.before.is-request.ensures c.before.before.before.before.before.before.before.if2.false _ (simp (sym c.before.before.before.before.before.before.is_image_lem.ensures, c.before.before.before.before.before.if3.false, c.before.before.before.before.if4.false) (c.before.before.change-other.ensures c.before.before.before.before.before.before.before.before.before.before.before.before.before.before.before.args.bytes.now)))
+returns-5 c = done_fits c.before.before.before.before.before.before.before.before.before.before.before.before.before.before.before.args.bench c.before.before.before.before.before.before.before.before.before.before.before.before.before.before.before.args.bytes.now c.before.before.before.before.before.before.before.before.before.before.before.before.before.before.before.args.out.now c.before.before.before.before.before.before.before.before.before.before.before.before.before.before.before.args.request.now (λ i. omega (arith, c.before.before.before.before.before.before.before.before.before.before.shared-slice-known2.given i)) _ _ _ (a_request c.before.before.before.before.before.before.before.before.before.before.before.before.before.before.before.args.bench c.before.before.before.before.before.before.before.before.before.before.before.before.before.before.before.args.bytes.now c.before.before.before.before.before.before.before.before.before.before.before.before.before.before.before.args.out.now _ c.before.before.before.before.before.before.before.before.before.before.before.before.before.before.before.args.request.now c.before.before.before.before.before.before.before.before.before.before.before.if1.false c.before.before.before.before.before.before.before.before.is-request.ensures c.before.before.before.before.before.before.before.if2.false _ (simp (sym c.before.before.before.before.before.before.is_image_lem.ensures, c.before.before.before.before.before.if3.false, le-ltb _ _ c.before.before.before.before.if4.false) (c.before.before.change-other.ensures c.before.before.before.before.before.before.before.before.before.before.before.before.before.before.before.args.bytes.now)))
 
 pub respond-spec : {M : Type 1} → statement M
 respond-spec =

@@ -39,7 +39,7 @@ returns-8 c = at_one (λ (x : ℕ). eqb c.before.args.size 8 ≡ args_fit x c.be
 
 returns-9 : tie.Need-returns-9
 unfolding args_fit ruled among
-returns-9 c = at_one (λ (x : ℕ). eqb c.before.args.size 9 ≡ args_fit x c.before.args.size) (6 ∷ 31 ∷ []) _ c.match.keys9 (refl, refl)
+returns-9 c = simp c.match.keys9
 
 returns-10 : tie.Need-returns-10
 unfolding args_fit ruled among
@@ -75,7 +75,7 @@ returns-17 c = simp c.match.keys17
 
 returns-18 : tie.Need-returns-18
 unfolding args_fit ruled
-returns-18 c = simp (not_among (19 ∷ 23 ∷ 27 ∷ []) _ c.match.rest.0.0.0.0.0.0.0.0.0.0.0.0.0.0.0.0.1, not_among (1 ∷ 3 ∷ 5 ∷ 12 ∷ 14 ∷ []) _ c.match.rest.0.0.0.0.0.0.0.0.0.0.0.0.0.0.0.1, not_among (9 ∷ 11 ∷ 25 ∷ []) _ c.match.rest.0.0.0.0.0.0.0.0.0.0.0.0.0.0.1, not_among (26 ∷ []) _ c.match.rest.0.0.0.0.0.0.0.0.0.0.0.0.0.1, not_among (10 ∷ 28 ∷ 30 ∷ []) _ c.match.rest.0.0.0.0.0.0.0.0.0.0.0.0.1, not_among (24 ∷ 29 ∷ []) _ c.match.rest.0.0.0.0.0.0.0.0.0.0.0.1, not_among (2 ∷ []) _ c.match.rest.0.0.0.0.0.0.0.0.0.0.1, not_among (15 ∷ 20 ∷ []) _ c.match.rest.0.0.0.0.0.0.0.0.0.1, not_among (6 ∷ 31 ∷ []) _ c.match.rest.0.0.0.0.0.0.0.0.1, not_among (8 ∷ []) _ c.match.rest.0.0.0.0.0.0.0.1, not_among (16 ∷ []) _ c.match.rest.0.0.0.0.0.0.1, not_among (18 ∷ []) _ c.match.rest.0.0.0.0.0.1, not_among (4 ∷ 13 ∷ []) _ c.match.rest.0.0.0.0.1, not_among (21 ∷ []) _ c.match.rest.0.0.0.1, not_among (22 ∷ []) _ c.match.rest.0.0.1, not_among (7 ∷ []) _ c.match.rest.0.1, not_among (17 ∷ []) _ c.match.rest.1)
+returns-18 c = simp (not_among (19 ∷ 23 ∷ 27 ∷ []) _ c.match.rest.0.0.0.0.0.0.0.0.0.0.0.0.0.0.0.0.1, not_among (1 ∷ 3 ∷ 5 ∷ 12 ∷ 14 ∷ []) _ c.match.rest.0.0.0.0.0.0.0.0.0.0.0.0.0.0.0.1, not_among (9 ∷ 11 ∷ 25 ∷ []) _ c.match.rest.0.0.0.0.0.0.0.0.0.0.0.0.0.0.1, not_among (26 ∷ []) _ c.match.rest.0.0.0.0.0.0.0.0.0.0.0.0.0.1, not_among (10 ∷ 28 ∷ 30 ∷ []) _ c.match.rest.0.0.0.0.0.0.0.0.0.0.0.0.1, not_among (24 ∷ 29 ∷ []) _ c.match.rest.0.0.0.0.0.0.0.0.0.0.0.1, not_among (2 ∷ []) _ c.match.rest.0.0.0.0.0.0.0.0.0.0.1, not_among (15 ∷ 20 ∷ []) _ c.match.rest.0.0.0.0.0.0.0.0.0.1, not_among (6 ∷ []) _ c.match.rest.0.0.0.0.0.0.0.0.1, not_among (8 ∷ []) _ c.match.rest.0.0.0.0.0.0.0.1, not_among (16 ∷ []) _ c.match.rest.0.0.0.0.0.0.1, not_among (18 ∷ []) _ c.match.rest.0.0.0.0.0.1, not_among (4 ∷ 13 ∷ []) _ c.match.rest.0.0.0.0.1, not_among (21 ∷ []) _ c.match.rest.0.0.0.1, not_among (22 ∷ []) _ c.match.rest.0.0.1, not_among (7 ∷ []) _ c.match.rest.0.1, not_among (17 ∷ []) _ c.match.rest.1)
 
 pub fits-spec : {M : Type 1} → statement M
 fits-spec =

@@ -34,9 +34,6 @@ number-requires-2 c κs = search rules
 number-requires-3 : tie.Need-number-requires-3
 number-requires-3 c κs = search rules
 
-byte-requires-7 : tie.Need-byte-requires-7
-byte-requires-7 c κs = search rules
-
 add-result : tie.Need-overflow-add-result
 add-result c = search rules
 
@@ -72,12 +69,8 @@ unfolding station_args ruled among all_true all_after
 returns-6 c = simp (c.before.before.match.keys6, c.number3.ensures.1, c.before.number2.ensures.1)
 
 returns-7 : tie.Need-returns-7
-unfolding station_args ruled among all_true all_after
-returns-7 c = simp (c.before.match.keys7, c.byte7.ensures)
-
-returns-8 : tie.Need-returns-8
 unfolding station_args ruled
-returns-8 c = simp (not_among (1 ∷ 6 ∷ 12 ∷ []) _ c.before.match.rest.0.0.0.0.0.0.1, not_among (7 ∷ 13 ∷ []) _ c.before.match.rest.0.0.0.0.0.1, not_among (2 ∷ []) _ c.before.match.rest.0.0.0.0.1, not_among (8 ∷ []) _ c.before.match.rest.0.0.0.1, not_among (9 ∷ []) _ c.before.match.rest.0.0.1, not_among (10 ∷ []) _ c.before.match.rest.0.1, not_among (31 ∷ []) _ c.before.match.rest.1, c.within-others.ensures)
+returns-7 c = simp (not_among (1 ∷ 6 ∷ 12 ∷ []) _ c.before.match.rest.0.0.0.0.0.1, not_among (7 ∷ 13 ∷ []) _ c.before.match.rest.0.0.0.0.1, not_among (2 ∷ []) _ c.before.match.rest.0.0.0.1, not_among (8 ∷ []) _ c.before.match.rest.0.0.1, not_among (9 ∷ []) _ c.before.match.rest.0.1, not_among (10 ∷ []) _ c.before.match.rest.1, c.within-others.ensures)
 
 pub within-spec : {M : Type 1} → statement M
 within-spec =
@@ -93,7 +86,6 @@ within-spec =
     number-requires-2
     number-requires-3
     add-result
-    byte-requires-7
     within-others-requires
     returns
     returns-2
@@ -101,5 +93,4 @@ within-spec =
     returns-4
     returns-5
     returns-6
-    returns-7
-    returns-8)
+    returns-7)

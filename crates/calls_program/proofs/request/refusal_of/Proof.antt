@@ -104,11 +104,7 @@ returns-21 c = simp c.match.keys21
 
 returns-22 : tie.Need-returns-22
 unfolding refusal_named
-returns-22 c = simp c.match.keys22
-
-returns-23 : tie.Need-returns-23
-unfolding refusal_named
-returns-23 c = (others refusal_table c.before.args.number c.match.rest).0
+returns-22 c = (others refusal_table c.before.args.number c.match.rest).0
 
 pub refusal-of-spec : {M : Type 1} → statement M
 refusal-of-spec =
@@ -135,5 +131,4 @@ refusal-of-spec =
     returns-19
     returns-20
     returns-21
-    returns-22
-    returns-23)
+    returns-22)

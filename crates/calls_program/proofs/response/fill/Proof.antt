@@ -61,9 +61,9 @@ unfolding filled_bytes
 returns c =
     let l = c.before.loop in
     let n = length c.before.before.before.args.bytes.now in
-    let at_end_lem : l.i ≡ n = omega (arith, l.invariant.0, l.invariant.1) in
+    let at_end : l.i ≡ n = omega (arith, l.invariant.0, l.invariant.1) in
     let none : n - l.i ≡ 0 = omega arith in (
-      λ e. sym (take_all l.i l.bytes (omega (arith, at_end_lem, l.invariant.1))) ∙ (l.invariant.2 e).1 ∙ ap (λ (k : ℕ). replicate k c.before.before.before.args.first) at_end_lem,
+      λ e. sym (take_all l.i l.bytes (omega (arith, at_end, l.invariant.1))) ∙ (l.invariant.2 e).1 ∙ ap (λ (k : ℕ). replicate k c.before.before.before.args.first) at_end,
       all_bytes l.bytes _ l.i (omega arith) (rw none at l.invariant.3),
     )
 

@@ -25,9 +25,6 @@ lend-requires c κs = search rules
 set-front-requires : tie.Need-set-front-requires
 set-front-requires c κs = search rules
 
-set-tally-requires : tie.Need-set-tally-requires
-set-tally-requires c κs = search rules
-
 ask-requires : tie.Need-ask-requires
 ask-requires c κs = search rules
 
@@ -92,19 +89,12 @@ returns-7 c = simp c.before.before.before.before.match.keys7 (c.before.before.se
 same-length-10 : tie.Need-same-length-10
 same-length-10 c = search rules
 
-returns-8 : tie.Need-returns-8
-unfolding station_done
-returns-8 c = simp c.before.before.before.before.match.keys8 (c.before.before.set-tally.ensures c.before.before.before.before.before.before.before.before.args.bytes.now)
-
 same-length-11 : tie.Need-same-length-11
 same-length-11 c = search rules
 
-same-length-12 : tie.Need-same-length-12
-same-length-12 c = search rules
-
-returns-9 : tie.Need-returns-9
+returns-8 : tie.Need-returns-8
 unfolding station_done
-returns-9 c = simp (ne_eqb _ _ c.before.before.before.before.before.before.before.before.match.rest.1, ne_eqb _ _ c.before.before.before.before.before.before.before.before.match.rest.0.1, ne_eqb _ _ c.before.before.before.before.before.before.before.before.match.rest.0.0.1, ne_eqb _ _ c.before.before.before.before.before.before.before.before.match.rest.0.0.0.1, ne_eqb _ _ c.before.before.before.before.before.before.before.before.match.rest.0.0.0.0.1, ne_eqb _ _ c.before.before.before.before.before.before.before.before.match.rest.0.0.0.0.0.1, ne_eqb _ _ c.before.before.before.before.before.before.before.before.match.rest.0.0.0.0.0.0.1, ne_eqb _ _ c.before.before.before.before.before.before.before.before.match.rest.0.0.0.0.0.0.0.1, c.kept.ensures) c.before.before.before.before.before.ask.ensures
+returns-8 c = simp (ne_eqb _ _ c.before.before.before.before.before.before.before.before.match.rest.1, ne_eqb _ _ c.before.before.before.before.before.before.before.before.match.rest.0.1, ne_eqb _ _ c.before.before.before.before.before.before.before.before.match.rest.0.0.1, ne_eqb _ _ c.before.before.before.before.before.before.before.before.match.rest.0.0.0.1, ne_eqb _ _ c.before.before.before.before.before.before.before.before.match.rest.0.0.0.0.1, ne_eqb _ _ c.before.before.before.before.before.before.before.before.match.rest.0.0.0.0.0.1, ne_eqb _ _ c.before.before.before.before.before.before.before.before.match.rest.0.0.0.0.0.0.1, c.kept.ensures) c.before.before.before.before.before.ask.ensures
 
 pub respond-spec : {M : Type 1} → statement M
 respond-spec =
@@ -117,7 +107,6 @@ respond-spec =
     set-slot-requires
     lend-requires
     set-front-requires
-    set-tally-requires
     ask-requires
     kept-requires
     same_length
@@ -137,7 +126,5 @@ respond-spec =
     same-length-9
     returns-7
     same-length-10
-    returns-8
     same-length-11
-    same-length-12
-    returns-9)
+    returns-8)

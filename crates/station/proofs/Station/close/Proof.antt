@@ -1,10 +1,8 @@
 -- `Station::close` meets its contract: each refusal in its order, else the slot is closed (Handing).
 use Prim.Native.Nat.{◌<◌}
-use mathlib.Core.Path.{sym, ap, ◌∙◌}
+use mathlib.Core.Path.{sym, ◌∙◌}
 use native.Mathlib.Omega.{arith}
 use borrow.Author.Tests.{not-true, not-false}
-use Rattle.station.specs.Stations.{bank_of}
-use Rattle.station.specs.Open.{in_bank, station_close}
 use Rattle.station.proofs.Handing.{close_state, close_closed, close_open, open_below}
 use borrow.Author.Rules.{rules}
 use Rattle.station.proofs.Station.close.Statement.{statement}
@@ -24,17 +22,13 @@ open-at-requires : tie.Need-open-at-requires
 open-at-requires c κs = search rules
 
 returns : tie.Need-returns
-unfolding station_close
 returns c =
-    let g = c.before.before.before.before.args in
-    ap (in_bank g.t1) (close_state (bank_of g.t1) g.i (sym c.before.before.sound.ensures ∙ not-true _ c.if1.true))
+    let g = c.before.before.before.before.args in close_state g.t1 g.i (sym c.before.before.sound.ensures ∙ not-true _ c.if1.true)
 
 returns-2 : tie.Need-returns-2
-unfolding station_close
 returns-2 c =
     let g = c.before.before.before.before.before.args in
-    ap (in_bank g.t1)
-    (close_closed (bank_of g.t1) g.i (sym c.before.before.before.sound.ensures ∙ not-false _ c.before.if1.false) (sym c.before.before.open_at.ensures ∙ not-true _ c.if2.true))
+    close_closed g.t1 g.i (sym c.before.before.before.sound.ensures ∙ not-false _ c.before.if1.false) (sym c.before.before.open_at.ensures ∙ not-true _ c.if2.true)
 
 closed-slot-requires : tie.Need-closed-slot-requires
 closed-slot-requires c κs = search rules
@@ -46,12 +40,10 @@ element-set-from-slot : tie.Need-element-set-from-slot
 element-set-from-slot c = omega (arith, below c.before)
 
 returns-3 : tie.Need-returns-3
-unfolding station_close
 returns-3 c =
     let g = c.before.before.before.before.before.before.args in
     rw c.closed-slot.ensures
-    (ap (in_bank g.t1)
-    (close_open (bank_of g.t1) g.i (sym c.before.before.before.before.sound.ensures ∙ not-false _ c.before.before.if1.false) (sym c.before.before.before.open_at.ensures ∙ not-false _ c.before.if2.false)))
+    (close_open g.t1 g.i (sym c.before.before.before.before.sound.ensures ∙ not-false _ c.before.before.if1.false) (sym c.before.before.before.open_at.ensures ∙ not-false _ c.before.if2.false))
 
 pub close_spec : {M : Type 1} → statement M
 close_spec =

@@ -7,7 +7,6 @@ use Prim.Native.Nat.{ℕ}
 use mathlib.Core.Path.{◌≡◌}
 use mathlib.Core.List.{List}
 use Rattle.format.specs.Refusals.{Result, value, refused}
-use Rattle.station.specs.Stations.{bank_of}
 use Rattle.station.specs.Read.{part_of, place_of, length_of, reading}
 use Rattle.station.proofs.Handing.{Readable, has_length, has_none}
 use borrow.Author.Rules.{rules}
@@ -15,10 +14,10 @@ use Rattle.station.proofs.Station.read.Statement.{statement}
 use Rattle.station.proofs.Station.read.Tie as tie
 
 -- the length that was answered is that of a packet within its area
-packet : (c : tie.After-known-told) → let g = c.before.before.before.before.before.args in Readable (bank_of g.self) g.store.now g.i c.before.h.given.0.0
+packet : (c : tie.After-known-told) → let g = c.before.before.before.before.before.args in Readable g.self g.store.now g.i c.before.h.given.0.0
 packet c =
     let g = c.before.before.before.before.before.args in
-    has_length (bank_of g.self) g.store.now g.i _ (ap meaning (sym c.before.h.given.1) ∙ c.before.before.before.read_length.ensures)
+    has_length g.self g.store.now g.i _ (ap meaning (sym c.before.h.given.1) ∙ c.before.before.before.read_length.ensures)
 
 read-length-requires : tie.Need-read-length-requires
 read-length-requires c κs = search rules
@@ -55,8 +54,8 @@ returns : tie.Need-returns
 returns c =
     let g = c.before.before.before.before.before.args in
     let q = ap meaning (sym c.before.enum_told.given.1) ∙ c.before.before.before.read_length.ensures in (
-      has_none (bank_of g.self) g.store.now g.i _ q,
-      ap (λ (o : ℕ). (g.store.ref_ptr.0, o)) (no_place _ g.store.ref_ptr.1 g.i (reading (bank_of g.self) g.store.now g.i) q),
+      has_none g.self g.store.now g.i _ q,
+      ap (λ (o : ℕ). (g.store.ref_ptr.0, o)) (no_place _ g.store.ref_ptr.1 g.i (reading g.self g.store.now g.i) q),
     )
 
 returns-2 : tie.Need-returns-2

@@ -4,7 +4,7 @@ use mathlib.Core.Path.{◌≡◌, refl, sym, ap, ◌∙◌}
 use mathlib.Core.Bool.{true}
 use native.Mathlib.Omega.{arith}
 use borrow.Author.Tests.{not-true, not-false}
-use Rattle.station.specs.Stations.{sound_bank, bank_of}
+use Rattle.station.specs.Stations.{sound_station}
 use Rattle.station.specs.Read.{is_done}
 use Rattle.station.specs.Open.{is_open}
 use Rattle.station.proofs.Handing.{open_below, read_state, read-store, read-closed, read_none, readable, read_done}
@@ -13,7 +13,7 @@ use Rattle.station.proofs.Station.read_length.Statement.{statement}
 use Rattle.station.proofs.Station.read_length.Tie as tie
 
 -- the station is sound and the slot open
-opened : (c : tie.Else3) → let g = c.before.before.before.before.before.before.before.args in (sound_bank (bank_of g.self) ≡ true) × (is_open g.self.slots g.i ≡ true)
+opened : (c : tie.Else3) → let g = c.before.before.before.before.before.before.before.args in (sound_station g.self ≡ true) × (is_open g.self.slots g.i ≡ true)
 opened c = (
   sym c.before.before.before.before.sound.ensures ∙ not-false _ c.before.before.before.if1.false,
   sym c.before.open_at.ensures ∙ not-false _ c.if3.false,
@@ -27,12 +27,12 @@ sound-requires c κs = search rules
 
 returns : tie.Need-returns
 returns c =
-    let g = c.before.before.before.before.args in read_state (bank_of g.self) g.store.now g.i (sym c.before.sound.ensures ∙ not-true _ c.if1.true)
+    let g = c.before.before.before.before.args in read_state g.self g.store.now g.i (sym c.before.sound.ensures ∙ not-true _ c.if1.true)
 
 returns-2 : tie.Need-returns-2
 returns-2 c =
     let g = c.before.before.before.before.before.args in
-    read-store (bank_of g.self) g.store.now g.i (sym c.before.before.sound.ensures ∙ not-false _ c.before.if1.false) c.if2.true
+    read-store g.self g.store.now g.i (sym c.before.before.sound.ensures ∙ not-false _ c.before.if1.false) c.if2.true
 
 open-at-requires : tie.Need-open-at-requires
 open-at-requires c κs = search rules
@@ -40,7 +40,7 @@ open-at-requires c κs = search rules
 returns-3 : tie.Need-returns-3
 returns-3 c =
     let g = c.before.before.before.before.before.before.before.args in
-    read-closed (bank_of g.self) g.store.now g.i (sym c.before.before.before.before.sound.ensures ∙ not-false _ c.before.before.before.if1.false) (omega arith)
+    read-closed g.self g.store.now g.i (sym c.before.before.before.before.sound.ensures ∙ not-false _ c.before.before.before.if1.false) (omega arith)
     (sym c.before.open_at.ensures ∙ not-true _ c.if3.true)
 
 mul-slot : tie.Need-overflow-mul-slot
@@ -69,22 +69,22 @@ returns-4 c =
     let d = c.before.before.before.before in
     let g = d.before.before.before.before.before.before.before.args in
     let o = opened d in
-    read_none (bank_of g.self) g.store.now g.i o.0 (omega arith) o.1 _ c.before.before.progress-in.ensures (ap is_done c.enum_told.given.1)
+    read_none g.self g.store.now g.i o.0 (omega arith) o.1 _ c.before.before.progress-in.ensures (ap is_done c.enum_told.given.1)
 
 returns-5 : tie.Need-returns-5
 returns-5 c =
     let d = c.before.before.before.before in
     let g = d.before.before.before.before.before.before.before.args in
     let o = opened d in
-    read_none (bank_of g.self) g.store.now g.i o.0 (omega arith) o.1 _ c.before.before.progress-in.ensures (ap is_done c.enum-told2.given.1)
+    read_none g.self g.store.now g.i o.0 (omega arith) o.1 _ c.before.before.progress-in.ensures (ap is_done c.enum-told2.given.1)
 
 returns-6 : tie.Need-returns-6
 returns-6 c =
     let d = c.before.before.before.before.before in
     let g = d.before.before.before.before.before.before.before.args in
     let o = opened d in
-    read_done (bank_of g.self) g.store.now g.i _
-    (readable (bank_of g.self) g.store.now g.i o.0 (omega arith) o.1 _ (sym c.before.h.given.1 ∙ c.before.before.before.progress-in.ensures) refl)
+    read_done g.self g.store.now g.i _
+    (readable g.self g.store.now g.i o.0 (omega arith) o.1 _ (sym c.before.h.given.1 ∙ c.before.before.before.progress-in.ensures) refl)
 
 pub read-length-spec : {M : Type 1} → statement M
 read-length-spec =
