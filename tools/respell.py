@@ -82,8 +82,19 @@ def names():
     return turned, {name: name + "_lem" for name in LEMMAS}
 
 
-def turn(text, turned, inside=PART):
-    return inside.sub(lambda m: turned.get(m.group(0), m.group(0)), text)
+def turn(text, turned):
+    """The text with each name turned; in a comment a word with a dash is English, and stays, unless it stands between backquotes."""
+    plain = {name: new for name, new in turned.items() if "-" not in name}
+
+    def words(text, names):
+        return PART.sub(lambda m: names.get(m.group(0), m.group(0)), text)
+
+    def line(text):
+        code, mark, comment = text.partition("--") if not text.startswith(("#", "//")) else ("", "", text)
+        parts = comment.split("`")
+        return words(code, turned) + mark + "`".join(words(part, turned if i % 2 else plain) for i, part in enumerate(parts))
+
+    return "\n".join(map(line, text.split("\n")))
 
 
 def turn_lemmas(text, lemmas):

@@ -1,10 +1,10 @@
 -- A row of records in memory, as an open slice of them has it. Nothing here speaks of a function.
---     look_elem            a share of the row stands in the context: record i is read where it lies, and the context stays
+--     look-elem            a share of the row stands in the context: record i is read where it lies, and the context stays
 --     row_knows            a row's records each have their relation, and so has the whole as an array; the row stays
 --     listed               a list of n records is its records, one by one (`tabulate`)
---     within, slot_typed   a place in a table of sixteen; the type of a record's machine value
---     cell_row, row_cell   a local array of sixteen is a row, and back: how such an array is lent as a slice, and comes back
---     field_val, as_field  an array that is a field of a struct
+--     within, slot-typed   a place in a table of sixteen; the type of a record's machine value
+--     cell_row, row-cell   a local array of sixteen is a row, and back: how such an array is lent as a slice, and comes back
+--     field-val, as-field  an array that is a field of a struct
 use mathlib.Core.Path.{◌≡◌, refl, sym, ◌∙◌, ap, subst}
 use Prim.Native.Nat.{ℕ, zero, suc, ◌+◌, ◌*◌, ◌<◌}
 use native.Mathlib.Nat.{not-suc-le-zero, le_of_suc-le-suc, suc_inj, suc-ne-zero}
