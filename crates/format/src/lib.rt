@@ -1,5 +1,7 @@
 // The two frame formats of GB/T 43671-2024: their limits, their identifier fields, the flags of
 // their pieces, and the refusals that all calls share.
+#![tactic(auto)]
+
 ghost use Rattle.std.specs.Prelude.{◌≡◌};
 ghost use Rattle.format.specs.Formats.{packet_limit, piece_size, header_size, number_range, flag_bits, numbered, packet_start, format_of, in_range};
 ghost use Rattle.format.specs.Refusals.{number};
@@ -7,11 +9,11 @@ ghost use Rattle.format.specs.Claims.{OneNumber, OneMeaning};
 ghost use Rattle.format.specs.Bounds.{FormatBounds};
 
 // The extended format, with 29-bit identifiers.
-#[derive(Drop)]
+#[derive(Clone, Copy)]
 pub struct Extended;
 
 // The standard format, with 11-bit identifiers.
-#[derive(Drop)]
+#[derive(Clone, Copy)]
 pub struct Standard;
 
 impl Extended {
@@ -38,7 +40,7 @@ impl Standard {
     pub const NUMBER_RANGE: usize = 256;
 }
 
-#[derive(Drop)]
+#[derive(Clone, Copy)]
 pub enum Format {
     Extended,
     Standard,
@@ -108,7 +110,7 @@ impl Format {
 }
 
 // The identifier's fields, but for the flag and the number, which belong to a piece.
-#[derive(Drop)]
+#[derive(Clone, Copy)]
 pub enum Fields {
     Extended {
         priority: u8,
@@ -172,7 +174,7 @@ impl Fields {
 }
 
 // What piece of its packet a frame is.
-#[derive(Drop)]
+#[derive(Clone, Copy)]
 pub enum Flag {
     Middle,
     Start,
@@ -196,7 +198,7 @@ impl Flag {
 
 // Why a call refused; the documents' name for each number, in the order of the numbers, which have
 // gaps.
-#[derive(Drop)]
+#[derive(Clone, Copy)]
 pub enum Refusal {
     Length,
     Form,
@@ -254,7 +256,7 @@ impl Refusal {
 }
 
 // The answer of a call that gives a count, a length or a slot: that number, or a refusal.
-#[derive(Drop)]
+#[derive(Clone, Copy)]
 pub enum Outcome {
     Value(usize),
     Refused(Refusal),
