@@ -1,4 +1,6 @@
 // Copying into lent bytes: the one function that writes packet bytes.
+#![tactic(auto)]
+
 ghost use Rattle.std.specs.Prelude.{◌≡◌, ◌+◌, ◌≤◌, length};
 ghost use Rattle.copying.specs.Copy.{written, within, copied};
 
