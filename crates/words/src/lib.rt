@@ -1,4 +1,6 @@
 // Numbers of 32 bits as four bytes, low byte first.
+#![tactic(auto)]
+
 ghost use Rattle.std.specs.Prelude.{◌≡◌};
 ghost use Rattle.words.specs.Words.{word_bytes, word_of};
 
