@@ -1,12 +1,12 @@
 -- The checks of an image: by name, where all hold, and one after the other, for the code that makes them.
 use Prim.Native.Nat.{ℕ, ◌+◌, ◌-◌, ◌≤◌, ◌<◌}
 use mathlib.Core.Path.{◌≡◌, sym, ap, ◌∙◌}
-use mathlib.Core.Bool.{Bool, true, false, not}
+use mathlib.Core.Bool.{Bool, true, false}
 use mathlib.Core.List.{List, [], ◌∷◌}
 use native.Mathlib.Omega.{arith}
 use lib.Dec.{leb, eqb}
 use lib.ListN.{length}
-use borrow.Author.Tests.{leb-true, eqb-true, le-leb, lt-leb, not-true, not-false}
+use borrow.Author.Tests.{leb-true, eqb-true, le-leb, lt-leb}
 use Rattle.format.specs.declared.Format.{Format}
 use Rattle.format.specs.declared.Refusal.TheVariants.{Length, Form, Remote, Count, Surplus, Piece}
 use Rattle.format.specs.Tests.{all_true}
@@ -61,8 +61,8 @@ second_fails a b p q = rw (p, q)
 
 -- what the piece rule decides, once all other checks have passed
 pub record ByRule (format : Format) (image : List ℕ) (said : Layout) (rule : Bool) : Type 0 where
-  pub broken : not rule ≡ true → refused 5 ≡ judge format image
-  pub kept : not rule ≡ false → value (read_by said image) ≡ judge format image
+  pub broken : rule ≡ false → refused 5 ≡ judge format image
+  pub kept : rule ≡ true → value (read_by said image) ≡ judge format image
 
 -- what the number of data bytes decides, once LENGTH, FORM and REMOTE have passed: fewer than the count says, more, or as many
 pub record ByLength (format : Format) (image : List ℕ) (said : Layout) (count data' wide : ℕ) : Type 0 where
@@ -101,22 +101,16 @@ module _ (format : Format) (image : List ℕ) (said : Layout) (e : said ≡ layo
         let m : length image ≤ header_size format + 8 = omega arith in
         both _ _ (le-leb _ _ l) (le-leb _ _ m)
 
-    pub misformed : not said.fixed ≡ true → refused 2 ≡ judge format image
+    pub misformed : said.fixed ≡ false → refused 2 ≡ judge format image
     unfolding checks
-    misformed f = judged (pass Length _ _ sized (stop Form _ _ (not-true said.fixed f)))
+    misformed f = judged (pass Length _ _ sized (stop Form _ _ f))
 
-    module _ (formed : not said.fixed ≡ false) where
-      f : said.fixed ≡ true
-      f = not-false said.fixed formed
-
-      pub remote : not (eqb said.rtr 0) ≡ true → refused 3 ≡ judge format image
+    module _ (f : said.fixed ≡ true) where
+      pub remote : eqb said.rtr 0 ≡ false → refused 3 ≡ judge format image
       unfolding checks
-      remote r = judged (pass Length _ _ sized (pass Form _ _ f (stop Remote _ _ (not-true (eqb said.rtr 0) r))))
+      remote r = judged (pass Length _ _ sized (pass Form _ _ f (stop Remote _ _ r)))
 
-      module _ (present : not (eqb said.rtr 0) ≡ false) where
-        r : eqb said.rtr 0 ≡ true
-        r = not-false (eqb said.rtr 0) present
-
+      module _ (r : eqb said.rtr 0 ≡ true) where
         -- the count that `judge` has read from the count code, and the same as a length
         module _ (count : ℕ) (ec : count ≡ data_count said.code) (wide : ℕ) (ew : wide ≡ count) where
           fewer : length image - header < wide → refused 4 ≡ judge format image
@@ -152,7 +146,7 @@ module _ (format : Format) (image : List ℕ) (said : Layout) (e : said ≡ layo
                 more = more;
                 exact = λ n rule er.
                     record {
-                      broken = λ p. to-the-rule n (stop Piece _ _ (rw (← ec) (sym er ∙ not-true rule p)));
-                      kept = λ p. to-the-rule n (pass Piece _ _ (rw (← ec) (sym er ∙ not-false rule p)) (none_left _));
+                      broken = λ p. to-the-rule n (stop Piece _ _ (rw (← ec) (sym er ∙ p)));
+                      kept = λ p. to-the-rule n (pass Piece _ _ (rw (← ec) (sym er ∙ p)) (none_left _));
                     };
               }

@@ -2,7 +2,7 @@
 use Prim.Native.Nat.{ℕ, ◌+◌, ◌-◌, ◌<◌}
 use mathlib.Core.Path.{◌≡◌, refl, sym, ap}
 use mathlib.Core.Logic.{◌≢◌}
-use mathlib.Core.Bool.{true, not}
+use mathlib.Core.Bool.{true}
 use mathlib.Core.List.{List, [], ◌∷◌}
 use native.Mathlib.Omega.{arith}
 use lib.Dec.{leb, eqb}
@@ -70,8 +70,8 @@ module _ (format : Format) (image : List ℕ) where
   refusals : PassesThree format image
       → ByLength format image said (data_count said.code) (length image - header_size format) (data_count said.code)
   refusals p =
-      by_length format image said refl (header_size format) refl p.least (omega (arith, p.most)) (ap not p.formed)
-      (ap (λ n. not (eqb n 0)) p.data_frame) _ refl _ refl
+      by_length format image said refl (header_size format) refl p.least (omega (arith, p.most)) p.formed
+      (ap (λ n. eqb n 0) p.data_frame) _ refl _ refl
 
   short_refused : PassesThree format image → length image < expected → judge format image ≡ refused (number Count)
   short_refused p h = sym ((refusals p).fewer (omega (arith, h, p.least)))

@@ -1,4 +1,6 @@
 // Frame images: what the bytes of one image say, and whether they are a sound frame.
+#![tactic(auto)]
+
 ghost use Rattle.std.specs.Prelude.{◌≡◌, cond, ◌≤◌, length, get_or};
 ghost use Rattle.format.specs.Formats.{header_size};
 ghost use Rattle.frame.specs.Layout.{flag_of, layout};
@@ -10,7 +12,7 @@ ghost use Rattle.frame.specs.Bounds.{JudgingBounds};
 use format::{Fields, Flag, Format, Refusal};
 
 // What stands in the bits of an image, right or wrong; `code` in those of the count.
-#[derive(Drop)]
+#[derive(Clone, Copy)]
 struct Layout {
     pub fixed: bool,
     pub rtr: u8,
@@ -22,7 +24,7 @@ struct Layout {
 }
 
 // A sound frame, but for its packet bytes: these are the image's bytes from start to its end.
-#[derive(Drop)]
+#[derive(Clone, Copy)]
 pub struct Head {
     pub fields: Fields,
     pub flag: Flag,
@@ -30,7 +32,7 @@ pub struct Head {
     pub start: usize,
 }
 
-#[derive(Drop)]
+#[derive(Clone, Copy)]
 pub enum Verdict {
     Sound(Head),
     Refused(Refusal),
