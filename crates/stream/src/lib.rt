@@ -1,4 +1,6 @@
 // One stream: what a frame of its key does to its progress and to its area.
+#![tactic(auto)]
+
 ghost use Rattle.std.specs.Prelude.{◌≡◌, ◌+◌, ◌≤◌, ◌<◌, length};
 ghost use Rattle.copying.specs.Copy.{written};
 ghost use Rattle.stream.specs.Step.{collecting, followed, stepped, offered, next_of};
@@ -8,7 +10,7 @@ ghost use Rattle.stream.specs.Bounds.{StepBounds};
 use format::{Flag, Format, Refusal};
 
 // How far a stream is. Collecting and Done hold h, the number of bytes at the head of the area.
-#[derive(Drop)]
+#[derive(Clone, Copy)]
 pub enum Progress {
     Idle,
     Collecting(u16),
@@ -16,7 +18,7 @@ pub enum Progress {
 }
 
 // What a receiving call answers.
-#[derive(Drop)]
+#[derive(Clone, Copy)]
 pub enum Answer {
     Packet { length: usize, broke: bool },
     Kept { broke: bool },
@@ -25,14 +27,14 @@ pub enum Answer {
 }
 
 // The answer at a frame, and the progress after it.
-#[derive(Drop)]
+#[derive(Clone, Copy)]
 pub struct Stepped {
     pub answer: Answer,
     pub progress: Progress,
 }
 
 // The bytes lent to one stream: room for the longest packet.
-#[derive(Drop)]
+#[derive(Clone, Copy)]
 pub struct Area;
 
 impl Area {
