@@ -1,25 +1,28 @@
 // What the programs share that work off their input as it arrives: reading on after what is held,
 // moving what is left to the front, and writing what was filled.
+#![tactic(auto)]
+
 ghost use Rattle.std.specs.Prelude.{◌≡◌, false, ◌≤◌, ◌<◌, length};
 ghost use Rattle.pipes.specs.Holding.{ReadOn, left, moved};
 
-use libc::{EPIPE, STDIN_FILENO, STDOUT_FILENO};
+use std::io::{ErrorKind, Input, Print, Read};
 
 // Reads once, after the first held bytes of the input, and answers how many are held then: no more
 // than before at the input's end. A read that fails counts as the end, and standard error says why.
-pub fn read_on(input: &mut [u8], held: usize) -> usize
+pub fn read_on(rt: &(impl Input + Eprint), input: &mut [u8], held: usize) -> usize
     ensures { ReadOn input.old held result input.new }
 {
     if held > input.len() {
         return held;
     }
-    let got = libc::read(STDIN_FILENO, &mut input[held..]);
-    if got < 0 {
-        os::fail(b"standard input");
-        return held;
+    let mut reader = rt.reader();
+    match reader.read(&mut input[held..]) {
+        Ok(n) => held + n,
+        Err(e) => {
+            let _ = eprintln!(rt; "standard input: {e}");
+            held
+        }
     }
-    let n = io::count(got, &input[held..]);
-    held + n
 }
 
 // Moves what stands from a place to the end of the first held bytes to the front, and answers how
@@ -44,15 +47,19 @@ pub fn keep(input: &mut [u8], at: usize, held: usize) -> usize
 
 // Writes the first bytes of the output, and answers whether all of them were. Standard error says
 // why a write failed, unless it is that its reader has gone.
-pub fn write_out(output: &[u8], filled: usize) -> bool
+pub fn write_out(rt: &(impl Print + Eprint), output: &[u8], filled: usize) -> bool
     ensures { length output.now < filled → result ≡ false }
 {
     if filled > output.len() {
         return false;
     }
-    let is_written = io::write_all(STDOUT_FILENO, &output[0..filled]);
-    if !is_written & (os::errno() != EPIPE) {
-        os::fail(b"standard output");
+    match Print::write_all(rt, &output[0..filled]) {
+        Ok(()) => true,
+        Err(e) => {
+            if e.kind() != ErrorKind::BrokenPipe {
+                let _ = eprintln!(rt; "standard output: {e}");
+            }
+            false
+        }
     }
-    is_written
 }
