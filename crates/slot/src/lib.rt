@@ -1,4 +1,6 @@
 // The sixteen slots of a station: keys, soundness, and which slot is open with a key.
+#![tactic(auto)]
+
 ghost use Rattle.std.specs.Prelude.{◌<◌, ◌≤◌, length, drop, true, cond, ◌≡◌};
 ghost use Rattle.format.specs.Formats.{format_of};
 ghost use Rattle.format.specs.Refusals.{meaning};
@@ -11,25 +13,25 @@ use format::{Extended, Fields, Format, Outcome, Refusal, Standard};
 use stream::Progress;
 
 // What a stream is known by: the bus (0 is A, 1 is B) and all identifier fields.
-#[derive(Drop)]
+#[derive(Clone, Copy)]
 pub struct Key {
     pub bus: u8,
     pub fields: Fields,
 }
 
-#[derive(Drop)]
+#[derive(Clone, Copy)]
 pub struct Stream {
     pub key: Key,
     pub progress: Progress,
 }
 
-#[derive(Drop)]
+#[derive(Clone, Copy)]
 pub enum Occupancy {
     Closed,
     Open(Stream),
 }
 
-#[derive(Drop)]
+#[derive(Clone, Copy)]
 pub struct Slot {
     pub occupancy: Occupancy,
 }
@@ -74,7 +76,7 @@ pub fn key_in_range(format: Format, key: Key) -> bool
 
 // The most bytes that are held while collecting. A standard piece of number 255 is an end, so that
 // no more than 255 pieces are.
-#[derive(Drop)]
+#[derive(Clone, Copy)]
 pub struct MostHeld;
 
 impl MostHeld {

@@ -1,0 +1,8 @@
+use Rattle.std.proofs.Common.{rules}
+use Rattle.format.specs.Tests.{all_true, all_after}
+use Rattle.slot.specs.Slots.{same_key}
+use Rattle.slot.proofs.open_with.Goals as goal
+
+pub returns-in-Open : goal.returns-in-Open
+unfolding same_key all_true all_after
+returns-in-Open c = search rules

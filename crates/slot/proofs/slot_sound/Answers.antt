@@ -1,0 +1,16 @@
+use Rattle.std.proofs.Common.{rules}
+use Rattle.format.specs.Tests.{all_true, all_after}
+use Rattle.slot.specs.Sound.{slot_sound}
+use Rattle.slot.proofs.slot_sound.Goals as goal
+
+pub returns-in-Closed : goal.returns-in-Closed
+unfolding slot_sound
+returns-in-Closed c = search rules
+
+pub returns-then-key_in_range : goal.returns-then-key_in_range
+unfolding slot_sound all_true all_after
+returns-then-key_in_range c = search rules
+
+pub returns-else-key_in_range : goal.returns-else-key_in_range
+unfolding slot_sound all_true all_after
+returns-else-key_in_range c = search rules
