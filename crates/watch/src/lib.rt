@@ -1,5 +1,7 @@
 // The silence watch: for each bus the time at which it was last heard, in milliseconds of a
 // free-running 32-bit count.
+#![tactic(auto)]
+
 ghost use Rattle.std.specs.Prelude.{◌≡◌, if◌then◌else◌};
 ghost use Rattle.watch.specs.Watching.{new_watch, silent, hearing, checking, watch_after};
 ghost use Rattle.watch.specs.Claims as claims;
