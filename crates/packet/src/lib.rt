@@ -1,4 +1,6 @@
 // Splitting: the pieces of a packet, as frame images.
+#![tactic(auto)]
+
 ghost use Rattle.std.specs.Prelude.{◌≡◌, true, ◌++◌, ◌+◌, ◌%◌, ◌≤◌, ◌<◌, length, take};
 ghost use Rattle.copying.specs.Copy.{copied};
 ghost use Rattle.format.specs.Formats.{number_range, format_of, in_range};
