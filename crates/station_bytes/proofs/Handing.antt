@@ -150,15 +150,15 @@ module _ (state codes : List ℕ) (s : Sound state codes) where
   unfolding is_open all_true
   over_15 i h = rw (le-ltb i 16 h)
 
-  is_open : (i : ℕ) → i < 16 → is_open slots i ≡ not (eqb (word_at state (8 * i + 4)) 0)
+  told_open : (i : ℕ) → i < 16 → is_open slots i ≡ not (eqb (word_at state (8 * i + 4)) 0)
   unfolding is_open all_true
-  is_open i h = rw (lt-ltb i 16 h) (ap not (closed_is state i h format))
+  told_open i h = rw (lt-ltb i 16 h) (ap not (closed_is state i h format))
 
   pub not_open : (i n : ℕ) → i < 16 → n ≡ word_at state (8 * i + 4) → eqb n 0 ≡ true → is_open slots i ≡ false
-  not_open i n h e q = is_open i h ∙ ap not (ap (λ (m : ℕ). eqb m 0) (sym e) ∙ q)
+  not_open i n h e q = told_open i h ∙ ap not (ap (λ (m : ℕ). eqb m 0) (sym e) ∙ q)
 
   pub yes_open : (i n : ℕ) → i < 16 → n ≡ word_at state (8 * i + 4) → eqb n 0 ≡ false → is_open slots i ≡ true
-  yes_open i n h e q = is_open i h ∙ ap not (ap (λ (m : ℕ). eqb m 0) (sym e) ∙ q)
+  yes_open i n h e q = told_open i h ∙ ap not (ap (λ (m : ℕ). eqb m 0) (sym e) ∙ q)
 
   pub close_closed : (i : ℕ) → is_open slots i ≡ false → state_after (Refused refusal.Closed) state ≡ close_in state i
   close_closed i o = refused_as_lem state s.same 16 _ (station.close_closed (station_in state) i s.ok o) ∙ sym (close_is i)

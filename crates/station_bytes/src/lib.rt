@@ -1,5 +1,7 @@
 // A station whose state is in lent bytes: sixteen records of eight bytes, the format, the layout's number. A
 // record is two numbers of 32 bits: the key's and the progress's.
+#![tactic(auto)]
+
 ghost use Rattle.std.specs.Prelude.{◌≡◌, cond, ◌+◌, ◌*◌, ◌-◌, ◌≤◌, ◌<◌, length};
 ghost use Rattle.copying.specs.Copy.{copied};
 ghost use Rattle.format.specs.Refusals.{meaning};
@@ -22,7 +24,7 @@ use stream::{Answer, Area, Progress, step};
 use words::{word_bytes, word_of};
 
 // The bytes of a state, and the number of their layout, which is the last of them.
-#[derive(Drop)]
+#[derive(Clone, Copy)]
 pub struct State;
 
 impl State {

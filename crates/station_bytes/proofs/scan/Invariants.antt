@@ -1,0 +1,16 @@
+-- `station_bytes::scan` meets its contract: the records before i are tested, and their codes written (Scans).
+use Rattle.std.proofs.Common.{◌≡◌, ◌≤◌, ◌-◌, ◌&&◌, length}
+use Rattle.std.proofs.Math.Seq.{paste}
+use Rattle.station_bytes.specs.Parts.{records_good, record_codes}
+use Rattle.station_bytes.proofs.scan.Given as goal
+
+abbrev pub invariant-loop-i : goal.invariant-loop-i
+invariant-loop-i l =
+    (l.i ≤ 16)
+    × (l.n ≡ l.i)
+    × (records_good l.format l.state 0 16 ≡ (l.good && records_good l.format l.state l.i (16 - l.i)))
+    × (l.codes ≡ paste l.initial.codes 0 (record_codes l.state 0 16) l.i)
+    × (length l.codes ≡ 16)
+
+abbrev pub decreases-loop-i : goal.decreases-loop-i
+decreases-loop-i l = 16 - l.i
