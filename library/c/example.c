@@ -2,7 +2,7 @@
  * A bench in small: two boards send at the same time, one on each bus, and each board's packets come out whole.
  * Then a lost frame and how it is told, a command that goes over to the other bus, and a bus that falls silent.
  *
- *     cc -std=c11 -I library/include library/c/example.c target/staticlib/libsiljuvatt.a -o example && ./example
+ *     cc -std=c11 -I library/include library/c/example.c crates/siljuvatt/out/libsiljuvatt.a -o example && ./example
  *
  * It prints what it does, and ends with 1 if an answer is not as the comments say.
  */

@@ -1,7 +1,7 @@
 """Makes the shared library of the static one, and the package for pip with it inside (PEP 517, PEP 660).
 
 Python and cc are all that it needs, so that pip needs no network. The static library is taken from the folder that the
-environment variable SILJUVATT_LIB names, or else from target/staticlib of the repository. pip may have copied this
+environment variable SILJUVATT_LIB names, or else from crates/siljuvatt/out of the repository. pip may have copied this
 folder alone to elsewhere: the first one then.
 
 usage: python3 backend.py [ARCHIVE [SHARED]]   (as library/make-shared)
@@ -18,7 +18,7 @@ import zipfile
 from pathlib import Path
 
 HERE = Path(__file__).resolve().parent
-STATICLIB = HERE.parent.parent / "target" / "staticlib"
+STATICLIB = HERE.parent.parent / "crates/siljuvatt/out"
 ARCHIVE = "libsiljuvatt.a"
 TAG = "py3-none-linux_x86_64"
 
@@ -30,7 +30,7 @@ class UnsupportedOperation(Exception):
 def make_shared(archive, shared):
     """Makes the shared library of the static one, or ends with a line that says why not."""
     if not archive.is_file():
-        sys.exit(f"{archive} is not there; build it by: rt staticlib siljuvatt "
+        sys.exit(f"{archive} is not there; build it by: compare/build siljuvatt "
                  "(for pip, the environment variable SILJUVATT_LIB names another folder)")
     whole = ["-Wl,--whole-archive", archive, "-Wl,--no-whole-archive"]
     try:

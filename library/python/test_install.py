@@ -109,7 +109,7 @@ class Installing(Case):
     def test_without_the_static_library(self):
         ran = self.pip(HERE, SILJUVATT_LIB=str(self.folder))
         self.assertNotEqual(ran.returncode, 0)
-        self.assertIn(f"{self.folder / 'libsiljuvatt.a'} is not there; build it by: rt staticlib siljuvatt", ran.stderr)
+        self.assertIn(f"{self.folder / 'libsiljuvatt.a'} is not there; build it by: compare/build siljuvatt", ran.stderr)
         self.assertNotIn("Traceback", ran.stderr)
         self.assertNotEqual(self.run_python("-c", "import siljuvatt").returncode, 0)
 
@@ -184,7 +184,7 @@ class MakeShared(Case):
     def test_told_what_is_wrong(self):
         (self.folder / "empty.a").write_bytes(b"no archive")
         for arguments, status, text in [
-                (["none.a"], 1, "rt staticlib siljuvatt"), (["a", "b", "c"], 2, "usage"),
+                (["none.a"], 1, "compare/build siljuvatt"), (["a", "b", "c"], 2, "usage"),
                 (["empty.a"], 1, "cc makes no shared library of empty.a")]:
             ran = self.make(*arguments)
             self.assertEqual(ran.returncode, status)

@@ -1,4 +1,4 @@
-//! Links libsiljuvatt.a from the folder that SILJUVATT_LIB names, or else from target/staticlib of the repository.
+//! Links libsiljuvatt.a from the folder that SILJUVATT_LIB names, or else from crates/siljuvatt/out of the repository.
 //!
 //! The archive is needed to link and for nothing else: without it `cargo check`, `cargo clippy` and `cargo doc` go on,
 //! and `cargo build` fails with what to run.
@@ -16,7 +16,7 @@ fn main() {
     if !archive.is_file() {
         let what = format!("{} is not there", archive.display());
         let help = format!(
-            "run rt staticlib siljuvatt, or name its folder by {VARIABLE}, as an absolute path"
+            "run compare/build siljuvatt, or name its folder by {VARIABLE}, as an absolute path"
         );
         println!("cargo:warning={what}, so nothing can be linked: {help}");
         // Cargo does not show each warning. What rustc does not find it names in its error, so the name says it too.
@@ -31,5 +31,5 @@ fn main() {
 
 fn default_folder() -> PathBuf {
     let package = env::var_os("CARGO_MANIFEST_DIR").expect("cargo names the package's folder");
-    PathBuf::from(package).join("../../target/staticlib")
+    PathBuf::from(package).join("../../crates/siljuvatt/out")
 }

@@ -5,8 +5,8 @@ both buses; a watch for a bus gone silent. The functions behind this module are 
 and names their answers. What cannot be done raises Refused, with a number and a name of document 01 or 02.
 
 The shared library is loaded at the first call: the file that load() was given, or else the one that the environment
-variable SILJUVATT_SO names, or else libsiljuvatt.so beside this file, where pip installs it, or in target/staticlib of
-the repository, where library/make-shared makes it. It must be of this module's release.
+variable SILJUVATT_SO names, or else libsiljuvatt.so beside this file, where pip installs it, or in crates/siljuvatt/out
+of the repository, where library/make-shared makes it. It must be of this module's release.
 
 >>> board = ExtendedFields(priority=1, source=5, group=0, destination=0, function=2)
 >>> station = Station(Format.EXTENDED)
@@ -273,7 +273,7 @@ _BOOLEAN = ("filter_accepts", "row_accepts")  # the others answer 32 bits
 def _places() -> list[Path]:
     """Where the library is looked for if nothing names it."""
     here = Path(__file__).resolve().parent
-    return [here / _FILE, here.parents[2] / "target" / "staticlib" / _FILE]
+    return [here / _FILE, here.parents[2] / "crates/siljuvatt/out" / _FILE]
 
 
 def _find() -> str:
