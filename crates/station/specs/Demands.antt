@@ -9,7 +9,7 @@
 --           soundness, and that the premises can be met
 -- Proofs: proofs/Isolation.antt (demand 3), proofs/RoundTrip.antt, proofs/OnCalls.antt (calls of the code), proofs/Refusals.antt,
 -- proofs/Soundness.antt (the rest).
-use Rattle.std.specs.Prelude.{ℕ, ◌+◌, ◌-◌, ◌≤◌, ◌<◌, ◌≡◌, ◌≢◌, Bool, true, false, cond, ◌||◌, List, [], ◌∷◌, ◌++◌, map, leb, eqb, length, replicate, set}
+use Rattle.std.specs.Prelude.{ℕ, ◌-◌, ◌≤◌, ◌<◌, ◌≡◌, ◌≢◌, Bool, true, false, cond, ◌||◌, List, [], ◌∷◌, ◌++◌, map, leb, eqb, length, replicate, set}
 use Rattle.format.specs.declared.Format.{Format}
 use Rattle.format.specs.declared.Format.TheVariants.{Standard}
 use Rattle.format.specs.declared.Refusal.TheVariants.{Step, Long}

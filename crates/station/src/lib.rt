@@ -1,4 +1,6 @@
 // A station: sixteen slots of one format; receiving, opening, closing and reading.
+#![tactic(auto)]
+
 ghost use Rattle.std.specs.Prelude.{◌≡◌, ◌-◌, ◌≤◌, ◌<◌, length};
 ghost use Rattle.format.specs.Refusals.{meaning};
 ghost use Rattle.slot.specs.Slots.{closed_slot, open_slot};
@@ -15,14 +17,14 @@ use frame::{Head, Verdict, judge};
 use slot::{Key, Occupancy, Slot, Stream, first_closed, key_in_range, seek, sound};
 use stream::{Answer, Area, Progress, step};
 
-#[derive(Drop)]
+#[derive(Clone, Copy)]
 pub struct Station {
     pub format: Format,
     pub slots: [Slot; 16],
 }
 
 // The bytes lent to a station: an area for each slot.
-#[derive(Drop)]
+#[derive(Clone, Copy)]
 pub struct Store;
 
 impl Store {
@@ -30,14 +32,14 @@ impl Store {
 }
 
 // What receiving hands back: the next station, and the answer.
-#[derive(Drop)]
+#[derive(Clone, Copy)]
 pub struct Received {
     pub station: Station,
     pub answer: Answer,
 }
 
 // One receiving turn over the bare slots: a slot, what it becomes, and the answer.
-#[derive(Drop)]
+#[derive(Clone, Copy)]
 pub struct Turn {
     pub at: usize,
     pub slot: Slot,
@@ -45,7 +47,7 @@ pub struct Turn {
 }
 
 // What opening and closing hand back: the next station, and the slot's number or a refusal.
-#[derive(Drop)]
+#[derive(Clone, Copy)]
 pub struct Changed {
     pub station: Station,
     pub answer: Outcome,
