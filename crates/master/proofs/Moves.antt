@@ -1,5 +1,5 @@
 -- What each call gives, case by case, for the code's proofs and for the claims.
-use Prim.Native.Nat.{ℕ, ◌+◌, ◌≤◌, ◌<◌}
+use Prim.Native.Nat.{ℕ, ◌≤◌, ◌<◌}
 use mathlib.Core.Path.{◌≡◌, sym, ap, ◌∙◌}
 use mathlib.Core.Logic.{◌≢◌}
 use mathlib.Core.Bool.{Bool, true, false, not}
@@ -15,7 +15,7 @@ use Rattle.format.proofs.Checks.{stop, pass, none_left}
 use Rattle.master.specs.declared.Kind.{Kind}
 use Rattle.master.specs.declared.Kind.TheVariants.{Poll, DataBlock, Command}
 use Rattle.master.specs.declared.Exchange.{Exchange}
-use Rattle.master.specs.declared.Activity.TheVariants.{Idle, UnderWay}
+use Rattle.master.specs.declared.Activity.TheVariants.{UnderWay}
 use Rattle.master.specs.declared.Master.{Master}
 use Rattle.master.specs.Masters.{plan_of, switched, exchange_sound, sound}
 use Rattle.master.specs.Exchanges.{MasterAfter, given, handed_back, gave_up, done, under_way, sent, exchange_ended, starting, counts, replying, chosen_after, again, expired, timing_out}

@@ -1,5 +1,7 @@
 // A master: one chosen bus for each node, and at most one exchange, which is sent again, on the same
 // or on the other bus, until it is answered or its sends are used up.
+#![tactic(auto)]
+
 ghost use Rattle.std.specs.Prelude.{◌≡◌, ◌≤◌};
 ghost use Rattle.master.specs.declared.Activity.TheVariants.{Idle, UnderWay};
 ghost use Rattle.master.specs.declared.Answer.TheVariants as answered;
@@ -11,7 +13,7 @@ ghost use Rattle.master.specs.Examples.{Examples};
 use format::Refusal;
 
 // What is sent to a node.
-#[derive(Drop)]
+#[derive(Clone, Copy)]
 pub enum Kind {
     Poll,
     DataBlock,
@@ -32,28 +34,28 @@ impl Kind {
 }
 
 // An exchange with a node, and how many times it was sent so far.
-#[derive(Drop)]
+#[derive(Clone, Copy)]
 pub struct Exchange {
     pub kind: Kind,
     pub node: u8,
     pub sends: u8,
 }
 
-#[derive(Drop)]
+#[derive(Clone, Copy)]
 pub enum Activity {
     Idle,
     UnderWay(Exchange),
 }
 
 // The bus chosen for each node, 0 for A and 1 for B, and the exchange under way, if any.
-#[derive(Drop)]
+#[derive(Clone, Copy)]
 pub struct Master {
     pub chosen: [u8; 64],
     pub activity: Activity,
 }
 
 // What a call answers: send on this bus, done, gave up, or a refusal.
-#[derive(Drop)]
+#[derive(Clone, Copy)]
 pub enum Answer {
     Send(u8),
     Done,
@@ -62,7 +64,7 @@ pub enum Answer {
 }
 
 // What a call hands back: the next master, and the answer.
-#[derive(Drop)]
+#[derive(Clone, Copy)]
 pub struct Moved {
     pub master: Master,
     pub answer: Answer,
@@ -70,7 +72,7 @@ pub struct Moved {
 
 // How an exchange of a kind goes: how often it is sent on the bus that is chosen at its start, how
 // often in all, and the function that answers it.
-#[derive(Drop)]
+#[derive(Clone, Copy)]
 pub struct Plan {
     pub first: u8,
     pub total: u8,
@@ -112,6 +114,7 @@ fn chosen_sound(chosen: [u8; 64]) -> bool
     true
 }
 
+#[tactic(auto, unfolding(crate::specs::Masters::exchange_sound, format::specs::Tests::all_true))]
 fn exchange_sound(activity: Activity) -> bool
     ensures { result ≡ exchange_sound activity }
 {
@@ -125,6 +128,7 @@ fn exchange_sound(activity: Activity) -> bool
     }
 }
 
+#[tactic(auto, unfolding(crate::specs::Masters::sound, format::specs::Tests::all_true))]
 fn is_sound(master: Master) -> bool
     ensures { result ≡ sound master }
 {
@@ -152,6 +156,7 @@ fn refuse(master: Master, name: Refusal) -> Moved
 }
 
 // The exchange goes out on the bus chosen for its node.
+#[tactic(auto, unfolding(crate::specs::Masters::chosen_bus))]
 fn send(chosen: [u8; 64], exchange: Exchange) -> Moved
     requires { exchange.node ≤ 63 }
     ensures { exchanges.master_after result ≡ exchanges.given (exchanges.sent chosen exchange) }
@@ -226,6 +231,7 @@ fn expire(chosen: [u8; 64], exchange: Exchange) -> Moved
 
 // Whether a reply is the one awaited: from the node, with the function, on the bus of the latest
 // send, which is the bus chosen for the node.
+#[tactic(auto, unfolding(crate::specs::Exchanges::counts, crate::specs::Masters::chosen_bus, format::specs::Tests::all_true))]
 fn counts(chosen: [u8; 64], exchange: Exchange, bus: u8, node: u8, function: u8) -> bool
     requires { exchange.node ≤ 63 }
     ensures { result ≡ exchanges.counts chosen bus node function (UnderWay exchange) }

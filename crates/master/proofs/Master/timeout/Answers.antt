@@ -1,0 +1,21 @@
+-- Each refusal in its order, else the exchange expires.
+use Rattle.std.proofs.Common.{sym, ap, ◌∙◌}
+use Rattle.master.specs.Exchanges.{under_way, expired, given, master_after}
+use Rattle.master.proofs.Moves.{node_in_range, timeout_state, timeout_idle, timeout_expires}
+use Rattle.master.proofs.Master.timeout.Goals as goal
+
+pub returns-then-not-is_sound : goal.returns-then-not-is_sound
+returns-then-not-is_sound c = ap master_after c.refuse.ensures ∙ timeout_state c.args.self (sym c.if-not-is_sound.ensures)
+
+pub expire-requires : goal.expire-requires
+expire-requires c = node_in_range c.args.self _ (sym c.if-not-is_sound.ensures) c.in-UnderWay.is
+
+pub returns-in-Idle : goal.returns-in-Idle
+returns-in-Idle c =
+    ap master_after c.refuse-in-Idle.ensures ∙ timeout_idle c.args.self (sym c.if-not-is_sound.ensures) (ap under_way c.in-Idle.is)
+
+pub returns-in-UnderWay : goal.returns-in-UnderWay
+returns-in-UnderWay c =
+    let g = c.args.self in
+    let e = c.in-UnderWay.is in
+    c.expire.ensures ∙ ap given (ap (expired g.chosen) (sym e)) ∙ timeout_expires g (sym c.if-not-is_sound.ensures) (ap under_way e)
