@@ -9,21 +9,21 @@ ghost use Rattle.watch.specs.Claims as claims;
 use format::{Outcome, Refusal};
 
 // The last heard time of bus A and of bus B.
-#[derive(Drop)]
+#[derive(Clone, Copy)]
 pub struct Watch {
     pub a: u32,
     pub b: u32,
 }
 
 // What hearing hands back: the next watch, and the bus heard or a refusal.
-#[derive(Drop)]
+#[derive(Clone, Copy)]
 pub struct Heard {
     pub watch: Watch,
     pub answer: Outcome,
 }
 
 // What a check hands back: the next watch, and whether bus A and bus B are to be reset.
-#[derive(Drop)]
+#[derive(Clone, Copy)]
 pub struct Checked {
     pub watch: Watch,
     pub a: bool,
@@ -60,6 +60,7 @@ impl Watch {
     }
 
     // A bus is heard now: 0 is A, 1 is B. Answers the bus, or refuses: FIELD.
+    #[tactic(auto, unfolding(crate::specs::Watching::hearing, format::specs::Refusals::guarded))]
     pub fn heard(self, bus: u8, time: u32) -> Heard
         ensures { watch_after result ≡ hearing self bus time }
     {
