@@ -1,5 +1,7 @@
 // The second front: receiving over a lent table of the sixteen stream records, the slots of a
 // station. Nothing else is stored between calls; the format is handed in.
+#![tactic(auto)]
+
 ghost use Rattle.std.specs.Prelude.{◌≡◌, length};
 ghost use Rattle.stream.specs.Answers.{meaning};
 ghost use Rattle.station.specs.Stations.{station_of};
@@ -47,7 +49,7 @@ pub fn receive(
 }
 
 // A table of one's own, lent to receive and handed back.
-#[derive(Drop)]
+#[derive(Clone, Copy)]
 pub struct Lent {
     pub table: [Slot; 16],
     pub answer: Answer,
