@@ -13,7 +13,7 @@ use Rattle.trace.proofs.Arriving.{sized, arriving}
 use Rattle.trace.specs.Lines.{header_line}
 use Rattle.lister.specs.declared.Listing.{Listing}
 use Rattle.lister.specs.Listing.{new_listing, extended_station, heard, line_for, next, Stand, listed_one, room, Reached, reached, listed_by, listed, has_room, begun, last_lines, ending}
-use Rattle.lister.specs.Claims.{sound_listing, listing_at, everything, program, printed, Part, arrived, called, inParts, NoWhole, ended_at, InParts, Printed}
+use Rattle.lister.specs.Claims.{sound_listing, listing_at, everything, program, printed, Part, arrived, called, in_parts, NoWhole, ended_at, InParts, Printed}
 use Rattle.lister.proofs.Rounds.{enough, unrolled}
 use Rattle.lister.proofs.Soundness.{listed_good, is_listed, rest_is, text_is}
 
@@ -128,8 +128,8 @@ called_is s part ok full =
     }
 
 all_parts : (s : Stand) (parts : List Part) → sound_listing (listing_at s) ≡ true → full_size s.store ≡ true
-    → everything (plus s (arrived parts)) ≡ everything (inParts s parts)
-unfolding inParts
+    → everything (plus s (arrived parts)) ≡ everything (in_parts s parts)
+unfolding in_parts
 all_parts s [] ok full = ap (λ (l : List ℕ). everything (record { slots = s.slots; store = s.store; count = s.count; rest = l; text = s.text })) (append-nil s.rest)
 all_parts s (part ∷ parts) ok full =
     let taken = s.rest ++ part.bytes in
@@ -143,7 +143,7 @@ all_parts s (part ∷ parts) ok full =
     ∙ ap (all_behind s.text) (go_on (length taken) (has_room part.output) first more)
     ∙ sym (listed_behind s.text (length (r.rest ++ more)) (plus r more))
     ∙ all_parts (behind s.text r) parts good.slots (eq-eqb _ _ good.store)
-    ∙ ap (λ (x : Stand). everything (inParts x parts)) (sym (called_is s part ok full))
+    ∙ ap (λ (x : Stand). everything (in_parts x parts)) (sym (called_is s part ok full))
 
 -- ---- when no whole record is left
 
@@ -160,7 +160,7 @@ pub in_parts_lem : InParts
 unfolding InParts
 in_parts_lem s parts ok full =
     let e = all_parts s parts ok full in
-    (e, λ h space. ap (λ (x : Reached). ended_at x.stand space) e ∙ ap (λ (x : Stand). ended_at x space) (at_end (inParts s parts) h))
+    (e, λ h space. ap (λ (x : Reached). ended_at x.stand space) e ∙ ap (λ (x : Stand). ended_at x space) (at_end (in_parts s parts) h))
 
 -- the call that ends the listing writes the last lines, where it has room
 at_last : (l : Listing) (rest output : List ℕ) (n : ℕ) → answer (ending l rest (length output)) ≡ value n
@@ -178,7 +178,7 @@ at_last l rest output n = go (leb (length (last_lines l rest)) (length output))
 pub printed_so : Printed
 unfolding Printed program
 printed_so store parts output n full h e =
-    let s = inParts (begun new_listing store []) parts in
+    let s = in_parts (begun new_listing store []) parts in
     ap (λ (x : Reached). printed x.stand) (all_parts (begun new_listing store []) parts (met.new Extended) full)
     ∙ ap printed (at_end s h)
     ∙ ap (λ (x : List ℕ). header_line ++ (s.text ++ x)) (sym (at_last (listing_at s) s.rest output n e))

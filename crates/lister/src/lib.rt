@@ -1,5 +1,7 @@
 // A listing: the records of a part of a trace, received by a station that opens each new key, and
 // their lines.
+#![tactic(auto)]
+
 ghost use Rattle.std.specs.Prelude.{◌≡◌, ◌+◌, ◌-◌, ◌<◌, ◌≤◌, true, ◌++◌, length};
 ghost use Rattle.format.specs.declared.Format.TheVariants.{Extended};
 ghost use Rattle.format.specs.Refusals.{value};
@@ -27,14 +29,14 @@ use trace::{Entry, LINE_ROOM, Line};
 
 // Where a listing stands between two parts of its trace: the slots, and how many records it has
 // listed.
-#[derive(Drop)]
+#[derive(Clone, Copy)]
 pub struct Listing {
     pub slots: [Slot; 16],
     pub count: u64,
 }
 
 // Why a call went no further.
-#[derive(Drop)]
+#[derive(Clone, Copy)]
 pub enum Why {
     // What is left of the input is no whole record.
     Input,
@@ -48,7 +50,7 @@ pub enum Why {
 
 // What a call hands back: the next listing, why it stopped, how many bytes of the input it took and
 // how many of the output it wrote.
-#[derive(Drop)]
+#[derive(Clone, Copy)]
 pub struct Listed {
     pub listing: Listing,
     pub why: Why,
@@ -57,7 +59,7 @@ pub struct Listed {
 }
 
 // One record told: a slot, what it becomes, and the record's line.
-#[derive(Drop)]
+#[derive(Clone, Copy)]
 struct Told {
     at: usize,
     slot: Slot,
