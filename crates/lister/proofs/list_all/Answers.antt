@@ -36,7 +36,7 @@ pub returns-then-output-written-lt-LINE_ROOM : goal.returns-then-output-written-
 returns-then-output-written-lt-LINE_ROOM c =
     let l = c.loop-slots in
     rw c.ended-then-output-written-lt-LINE_ROOM.ensures
-    (stops-room l.invariant _ _ _ (seen c.args.input.now l.used _ _ c.read_record.ensures c.in-Record.is) c.if-output-written-lt-LINE_ROOM.true)
+    (stops-room l.invariant _ _ _ (seen c.args.input.now l.used _ _ c.read_record.ensures c.in-Record.is) (omega arith))
 
 pub overflow_add-to : goal.overflow_add-to
 overflow_add-to c =
@@ -73,5 +73,5 @@ pub loop-slots-preserved : goal.loop-slots-preserved
 loop-slots-preserved c =
     let l = c.loop-slots in
     let t = c.tell-told in
-    goes_on l.invariant _ c.in-Record.size _ (seen c.args.input.now l.used _ _ c.read_record.ensures c.in-Record.is) c.if-output-written-lt-LINE_ROOM.false _
+    goes_on l.invariant _ c.in-Record.size _ (seen c.args.input.now l.used _ _ c.read_record.ensures c.in-Record.is) (omega arith) _
     c.wrapping_add_u64-count.ensures.value t.result _ (told_of c.args.input.now l.used c.in-Record.size t.ensures) _ _ c.put_line-written.ensures
