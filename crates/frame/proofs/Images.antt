@@ -27,7 +27,7 @@ use Rattle.frame.specs.Image.{data_of, header_bytes, image_with, image_of, count
 use Rattle.frame.specs.Claims.{Bytes, ImageIsJudged, IsImage, JudgedIsImage, OneImage}
 use Rattle.frame.specs.Claims.{SaysEight, CodeFor, CodesAlike, EachCodeIsJudged, CountSent}
 use Rattle.frame.proofs.Flags.{bits_small, flag_of_bits, bits_of_flag}
-use Rattle.frame.proofs.JudgeLaws.{Passing, passing}
+use Rattle.frame.proofs.Passing.{Passing, passing}
 use Rattle.frame.proofs.CountCodes.{few_said, code_for, codes_alike, with_code_lem, code_sent}
 
 -- a piece that keeps its rule has eight data bytes at most

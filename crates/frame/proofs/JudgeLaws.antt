@@ -1,4 +1,4 @@
--- The checks of an image: by name, where all hold, and one after the other, for the code that makes them.
+-- The checks of an image, one after the other, for the code that makes them; proofs/Passing.antt has them by name.
 use Prim.Native.Nat.{ℕ, ◌+◌, ◌-◌, ◌≤◌, ◌<◌}
 use mathlib.Core.Path.{◌≡◌, sym, ap, ◌∙◌}
 use mathlib.Core.Bool.{Bool, true, false}
@@ -6,46 +6,16 @@ use mathlib.Core.List.{List, [], ◌∷◌}
 use native.Mathlib.Omega.{arith}
 use lib.Dec.{leb, eqb}
 use lib.ListN.{length}
-use borrow.Author.Tests.{leb-true, eqb-true, le-leb, lt-leb}
+use borrow.Author.Tests.{le-leb, lt-leb}
 use Rattle.format.specs.declared.Format.{Format}
 use Rattle.format.specs.declared.Refusal.TheVariants.{Length, Form, Remote, Count, Surplus, Piece}
 use Rattle.format.specs.Tests.{all_true}
 use Rattle.format.specs.Formats.{header_size}
 use Rattle.format.specs.Refusals.{Result, value, refused, Check, check, guarded}
-use Rattle.format.proofs.Tests.{each}
-use Rattle.format.proofs.Checks.{stop, pass, none_left, Passed}
+use Rattle.format.proofs.Checks.{stop, pass, none_left}
 use Rattle.frame.specs.declared.Layout.{Layout}
 use Rattle.frame.specs.Layout.{layout}
 use Rattle.frame.specs.Judge.{data_count, piece_rule, checks, Judged, read_by, judge}
-
--- ---- all hold
-
-pub record Passing (format : Format) (size : ℕ) (said : Layout) : Type 0 where
-  -- LENGTH, FORM, REMOTE
-  pub least : header_size format ≤ size
-  pub most : size ≤ header_size format + 8
-  pub formed : said.fixed ≡ true
-  pub data_frame : said.rtr ≡ 0
-  -- COUNT and SURPLUS; PIECE
-  pub counted : size ≡ header_size format + data_count said.code
-  pub rule : piece_rule format said.flag (data_count said.code) said.number ≡ true
-
-pub passing : (format : Format) (size : ℕ) (said : Layout) → Passed (checks format size said) → Passing format size said
-unfolding checks
-passing format size said p =
-    let sized = each _ p.0 in
-    let enough : header_size format + data_count said.code ≤ size = leb-true _ _ p.1.1.1.0 in
-    let few : size ≤ header_size format + data_count said.code = leb-true _ _ p.1.1.1.1.0 in
-    record {
-      least = leb-true _ _ sized.0;
-      most = leb-true _ _ sized.1.0;
-      formed = p.1.0;
-      data_frame = eqb-true _ _ p.1.1.0;
-      counted = omega arith;
-      rule = p.1.1.1.1.1.0;
-    }
-
--- ---- one after the other
 
 both : (a b : Bool) → a ≡ true → b ≡ true → all_true (a ∷ b ∷ []) ≡ true
 unfolding all_true

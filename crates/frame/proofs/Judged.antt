@@ -19,7 +19,7 @@ use Rattle.frame.specs.Layout.{layout}
 use Rattle.frame.specs.Judge.{Judged, data_count, piece_rule, checks, read_by, judge}
 use Rattle.frame.specs.Image.{sound_frame}
 use Rattle.frame.specs.Claims.{Bytes, JudgedIsImage}
-use Rattle.frame.proofs.JudgeLaws.{passing}
+use Rattle.frame.proofs.Passing.{passing}
 use Rattle.frame.proofs.Images.{rule_count, judged_is_image}
 
 -- ---- an image that is judged sound

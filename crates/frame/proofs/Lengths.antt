@@ -2,24 +2,22 @@
 use Prim.Native.Nat.{ℕ, ◌+◌, ◌-◌, ◌<◌}
 use mathlib.Core.Path.{◌≡◌, refl, sym, ap}
 use mathlib.Core.Logic.{◌≢◌}
-use mathlib.Core.Bool.{true}
-use mathlib.Core.List.{List, [], ◌∷◌}
+use mathlib.Core.List.{List}
 use native.Mathlib.Omega.{arith}
-use lib.Dec.{leb, eqb}
+use lib.Dec.{eqb}
 use lib.ListN.{length}
-use borrow.Author.Tests.{leb-true, leb-false, eqb-true}
+use borrow.Author.Tests.{leb-false}
 use Rattle.format.specs.declared.Format.{Format}
 use Rattle.format.specs.declared.Refusal.TheVariants.{Count, Surplus}
-use Rattle.format.specs.Tests.{all_true}
 use Rattle.format.specs.Formats.{header_size}
 use Rattle.format.specs.Refusals.{refused, number}
-use Rattle.format.proofs.Tests.{each}
 use Rattle.format.proofs.Checks.{refused_where}
 use Rattle.frame.specs.declared.Layout.{Layout}
 use Rattle.frame.specs.Layout.{layout}
 use Rattle.frame.specs.Judge.{data_count, checks, judge}
 use Rattle.frame.specs.Image.{count_code}
 use Rattle.frame.specs.Claims.{PassesThree, WhichWay}
+use Rattle.frame.proofs.Passing.{passes}
 use Rattle.frame.proofs.JudgeLaws.{ByLength, by_length}
 
 module _ (format : Format) (image : List ℕ) where
@@ -39,12 +37,6 @@ module _ (format : Format) (image : List ℕ) where
   neither : (n : ℕ) → (n ≢ number Count) × (n ≢ number Surplus) → Found n
   neither n h = (λ q. absurd (h.0 q), λ q. absurd (h.1 q))
 
-  passes : all_true (leb (header_size format) (length image) ∷ leb (length image) (header_size format + 8) ∷ []) ≡ true
-      → said.fixed ≡ true → eqb said.rtr 0 ≡ true → PassesThree format image
-  passes sized formed present =
-      let t = each _ sized in
-      record { least = leb-true _ _ t.0; most = leb-true _ _ t.1.0; formed = formed; data_frame = eqb-true _ _ present }
-
   found : (n : ℕ) → judge format image ≡ refused n → Found n
   unfolding judge checks
   found n e =
@@ -55,7 +47,7 @@ module _ (format : Format) (image : List ℕ) where
           λ formed. (
             (λ _. neither _ (omega arith)),
             λ present.
-                let three = passes sized formed present in (
+                let three = passes format image sized formed present in (
                   (λ z. (λ _. (three, leb-false _ _ z), λ q. absurd (omega arith))),
                   λ _. (
                     (λ z. (λ q. absurd (omega arith), λ _. (three, leb-false _ _ z))),

@@ -14,10 +14,10 @@ overflow_mul-from c =
     record { fits = omega (arith, inside) }
 
 pub overflow_sub-n : goal.overflow_sub-n
-overflow_sub-n c = within_packet c.args.z c.args.packet.now c.args.k c.requires c.if-n-le8.false
+overflow_sub-n c = omega (arith, within_packet c.args.z c.args.packet.now c.args.k c.requires c.if-n-le8.false)
 
 pub slice_bounds-result-count : goal.slice_bounds-result-count
-slice_bounds-result-count c = within_packet c.args.z c.args.packet.now c.args.k c.requires c.if-n-le8.false
+slice_bounds-result-count c = omega (arith, within_packet c.args.z c.args.packet.now c.args.k c.requires c.if-n-le8.false)
 
 pub slice_bounds-result-start : goal.slice_bounds-result-start
 slice_bounds-result-start c =
