@@ -6,12 +6,11 @@ use mathlib.Core.Bool.{Bool, true, false, not}
 use mathlib.Core.List.{List, ◌++◌}
 use native.Mathlib.Omega.{arith}
 use lib.Dec.{ltb, eqb}
-use lib.ListN.{length, get_or, take, drop, length-append, length-drop, get_or-append}
+use lib.ListN.{length, get_or, drop, length-append, length-drop, get_or-append}
 use lib.Seq.{take-append-le, drop-append-le}
 use borrow.Author.Tests.{eqb-true, eqb-false, ltb-true, ltb-false}
-use Rattle.trace.specs.declared.Entry.{Entry}
 use Rattle.trace.specs.declared.Entry.TheVariants.{Record, Damaged, Cut, End}
-use Rattle.trace.specs.Records.{Found, whole, damaged, cut, none, image_in, record_at, meaning}
+use Rattle.trace.specs.Records.{whole, cut, none, image_in, record_at}
 use Rattle.trace.specs.Claims.{Arriving, Sized, OneEntry}
 use Rattle.trace.proofs.Reading.{right, known, at_least, bus_known, at_none, at_one, at_length, at_cut, at-damaged, at_whole}
 

@@ -1,23 +1,20 @@
 -- No line has more than 96 bytes.
-use Prim.Native.Nat.{ℕ, ◌+◌, ◌≤◌, ◌<◌}
+use Prim.Native.Nat.{ℕ, ◌≤◌}
 use mathlib.Core.Path.{◌≡◌}
 use mathlib.Core.Bool.{true}
-use mathlib.Core.List.{List, [], ◌∷◌}
 use native.Mathlib.Omega.{arith}
-use lib.Dec.{leb}
 use lib.ListN.{length, length-append}
 use borrow.Author.Tests.{leb-true}
 use Rattle.format.specs.declared.Fields.{Fields}
 use Rattle.format.specs.declared.Fields.TheVariants.{Extended, Standard}
 use Rattle.format.specs.declared.Flag.{Flag}
 use Rattle.format.specs.Formats.{in_range, flag_bits}
-use Rattle.format.specs.Refusals.{Result, refused, number}
+use Rattle.format.specs.Refusals.{Result, number}
 use Rattle.format.proofs.Tests.{each}
 use Rattle.frame.proofs.Flags.{bits_small}
 use Rattle.stream.specs.Answers.{Reply, meaning}
-use Rattle.trace.specs.declared.Line.{Line}
 use Rattle.trace.specs.declared.Line.TheVariants as line
-use Rattle.trace.specs.Lines.{decimal, field_text, fields_text, bus_name, answer_text, columns, header_line, frame_line, refused_line, stopped_line, count_line, line_text, extended_in_range, line_in_range}
+use Rattle.trace.specs.Lines.{fields_text, columns, header_line, frame_line, refused_line, stopped_line, count_line, line_text, extended_in_range, line_in_range}
 use Rattle.trace.specs.Claims.{RoomForLine}
 use Rattle.trace.proofs.Texts.{decimal_length, field_short, field_byte, answer_short, bus_short}
 

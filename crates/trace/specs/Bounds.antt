@@ -1,7 +1,7 @@
 -- Document 01, the listing program: the bounds of a record ("2 to 15", "version byte 1", "bus byte 0 or 1", "the input ends inside it"),
 -- and the columns, words and numbers of a line, each by examples, so that no definition can be changed alike with the code. Tables of
 -- what is asked and what is to come of it; proofs/Bounds.antt proves them by computing.
-use Rattle.std.specs.Prelude.{ℕ, ◌≡◌, Bool, true, false, List, [], ◌∷◌, ◌++◌, replicate}
+use Rattle.std.specs.Prelude.{ℕ, ◌≡◌, Bool, true, false, List, [], ◌∷◌, replicate}
 use Rattle.format.specs.declared.Fields.{Fields}
 use Rattle.format.specs.declared.Fields.TheVariants as fields
 use Rattle.format.specs.declared.Flag.TheVariants.{Start, Middle, End, Single}

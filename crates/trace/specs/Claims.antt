@@ -2,7 +2,7 @@
 use Rattle.std.specs.Prelude.{ℕ, ◌+◌, ◌-◌, ◌*◌, ◌≤◌, ◌<◌, ◌≡◌, ◌≢◌, Bool, true, ◌&&◌, List, [], ◌∷◌, ◌++◌, leb, length, get_or}
 use Rattle.trace.specs.declared.Entry.{Entry}
 use Rattle.trace.specs.declared.Line.{Line}
-use Rattle.trace.specs.Records.{Found, whole, cut, none, record_at, meaning}
+use Rattle.trace.specs.Records.{whole, cut, none, record_at, meaning}
 use Rattle.trace.specs.Lines.{ascii, digits, decimal, line_text, line_in_range}
 
 -- no line that is not refused by FIELD has more than 96 bytes (`LINE_ROOM`)

@@ -1,4 +1,6 @@
 // Traces: one record read from lent bytes, and one line of the listing written to a lent output.
+#![tactic(auto)]
+
 ghost use Rattle.std.specs.Prelude.{◌≡◌, ◌++◌, ◌+◌, ◌*◌, ◌≤◌, ◌<◌, length, take};
 ghost use Rattle.format.specs.Formats.{flag_bits};
 ghost use Rattle.format.specs.Refusals.{refused, number};
@@ -15,7 +17,7 @@ use format::{Fields, Flag, Outcome, Refusal};
 use stream::Answer;
 
 // What stands at the head of a trace's bytes.
-#[derive(Drop)]
+#[derive(Clone, Copy)]
 pub enum Entry {
     // A whole record: its bus, and how many bytes it takes. Its image is those after the first four.
     Record { bus: u8, size: usize },
@@ -61,7 +63,7 @@ pub fn read_record(input: &[u8]) -> Entry
 }
 
 // A line of the listing.
-#[derive(Drop)]
+#[derive(Clone, Copy)]
 pub enum Line {
     Header,
     // A record whose image is a frame, with what receiving it answered.
