@@ -38,7 +38,8 @@ module _ (z n : ℕ) (pos : 0 < z) (small : z ≤ 8) (long : 8 < n) where
 
 module _ (z : ℕ) (packet : List ℕ) (k : ℕ) where
   -- piece k begins within the packet
-  pub within_packet : (0 < z) × (z ≤ 8) × (length packet ≤ 2048) × (k < count_of z (length packet)) → 8 < length packet → z * k ≤ length packet
+  pub within_packet : (0 < z) × (z ≤ 8) × (length packet ≤ 2048) × (k < count_of z (length packet)) → 8 < length packet
+      → z * k ≤ length packet
   within_packet r long = let h = (several z (length packet) r.0 r.1 long).within k r.3 in omega arith
 
   pub bytes_single : length packet ≤ 8 → piece_bytes z packet k ≡ packet
