@@ -55,8 +55,7 @@ pub struct Lent {
     pub answer: Answer,
 }
 
-// Lends a table of one's own to receive: for code that the borrow checker is to cover, which cannot
-// lend an array of structs itself.
+// Lends a table of one's own to receive, for a caller that has the table by value, and hands it back.
 pub fn receive_by_value(
     format: Format,
     table: [Slot; 16],
