@@ -1,5 +1,7 @@
 // A master whose state is in lent bytes: the bus chosen for each of 64 nodes, then the kind of the exchange
 // under way (0 none, 1 poll, 2 data block, 3 command), its node and its send count, and the layout's number.
+#![tactic(auto)]
+
 ghost use Rattle.std.specs.Prelude.{◌≡◌, cond, length, take};
 ghost use Rattle.master.specs.Exchanges as exchanges;
 ghost use Rattle.master_bytes.specs.States.{kind_number, last_bytes, state_bytes, kind_of, activity_of, master_in, activity_written, is_state};
@@ -58,6 +60,7 @@ fn activity_of(kind: u8, node: u8, sends: u8) -> Activity
 }
 
 // Whether a master writes these three bytes.
+#[tactic(auto, unfolding(crate::specs::States::activity_written, format::specs::Tests::all_true))]
 fn activity_written(kind: u8, node: u8, sends: u8) -> bool
     ensures { result ≡ activity_written kind node sends }
 {
@@ -106,6 +109,7 @@ fn put(state: &mut [u8], master: Master)
     copy_in(state, 64, &bytes);
 }
 
+#[tactic(auto, unfolding(crate::specs::States::is_state, format::specs::Tests::all_true))]
 fn is_state(state: &[u8]) -> bool
     ensures { result ≡ is_state state.now }
 {
@@ -118,6 +122,7 @@ fn is_state(state: &[u8]) -> bool
     activity_written(state[64], state[65], state[66])
 }
 
+#[tactic(auto, unfolding(crate::specs::States::master_in))]
 fn load(state: &[u8]) -> Master
     requires { length state.now ≡ 68 }
     ensures { result ≡ master_in state.now }
@@ -147,6 +152,7 @@ fn hand_back(state: &mut [u8], moved: Moved) -> Answer
 }
 
 // Makes the bytes a new master's: bus A chosen for every node, no exchange. Answers 0, or refuses: STATE.
+#[tactic(auto, unfolding(crate::specs::Calls::renew))]
 pub fn new(state: &mut [u8]) -> Outcome
     ensures { calls.renew_after result state.new ≡ calls.renew state.old }
 {
@@ -158,6 +164,7 @@ pub fn new(state: &mut [u8]) -> Outcome
 }
 
 // The node to ask for. For a kind that is none it is no node either, and so refused: after STATE, before BUSY.
+#[tactic(auto, unfolding(format::specs::Tests::all_true))]
 fn node_for(kind: u8, node: u8) -> u8
     ensures { result ≡ cond (calls.is_kind kind) node 64 }
 {
