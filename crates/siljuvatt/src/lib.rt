@@ -1,5 +1,7 @@
 // The library that programs in C, C++, Rust and Python link: every call over numbers and lent bytes.
 // library/include/siljuvatt.h describes the calls for their users.
+#![tactic(auto)]
+
 ghost use Rattle.std.specs.Prelude.{◌≡◌, ◌%◌, length, get_or};
 ghost use Rattle.format.specs.Refusals as outcomes;
 ghost use Rattle.stream.specs.Answers as replies;
