@@ -3,9 +3,7 @@ use Rattle.std.proofs.Common.{◌≡◌, refl, ap}
 use Rattle.format.specs.Refusals.{number}
 use Rattle.format.specs.Claims.{OneNumber}
 use Rattle.format.proofs.Numbers.{one_number}
-use Rattle.lister.specs.declared.Why.{Why}
 use Rattle.lister.specs.declared.Why.TheVariants as why
-use Rattle.lister.specs.Listing.{meaning}
 use Rattle.lister.specs.Claims.{OneWhy}
 
 pub one_why : OneWhy

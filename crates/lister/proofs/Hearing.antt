@@ -1,7 +1,7 @@
 -- One record heard: what the code does to the slots is what opening the key, if it is new, and receiving the image do to the station.
 use Rattle.std.proofs.Common.{◌≡◌, ℕ, ◌-◌, ◌<◌, ◌≤◌, true, List, length, set, sym, refl, ap, ◌∙◌, subst, arith, length-drop, get_or-set_same, set-set, eq-eqb, eqb-true, le-leb}
 use lib.Seq.{set-get_or}
-use Rattle.format.specs.declared.Format.TheVariants.{Extended, Standard}
+use Rattle.format.specs.declared.Format.TheVariants.{Extended}
 use Rattle.format.specs.declared.Fields.{Fields}
 use Rattle.format.specs.declared.Fields.TheVariants as fields
 use Rattle.format.specs.declared.Refusal.{Refusal}

@@ -1,5 +1,5 @@
 -- What is listed does not depend on the parts that the input arrives in.
-use Rattle.std.proofs.Common.{◌≡◌, ℕ, zero, suc, ◌+◌, ◌-◌, ◌≤◌, Bool, true, false, cond, leb, ◌≢◌, List, [], ◌∷◌, ◌++◌, length, take, drop, sym, refl, ap, ◌∙◌, append_assoc, append-nil, arith, length-append, length-drop, take_at, eq-eqb, eqb-true}
+use Rattle.std.proofs.Common.{◌≡◌, ℕ, zero, suc, ◌-◌, ◌≤◌, Bool, true, false, cond, leb, ◌≢◌, List, [], ◌∷◌, ◌++◌, length, take, drop, sym, refl, ap, ◌∙◌, append_assoc, append-nil, arith, length-drop, take_at, eq-eqb, eqb-true}
 use lib.Seq.{drop-append-le}
 use Rattle.format.specs.declared.Format.TheVariants.{Extended}
 use Rattle.format.specs.Refusals.{value, refused, guarded}

@@ -3,7 +3,6 @@ use Rattle.std.proofs.Common.{◌≡◌, ℕ, zero, suc, ◌+◌, ◌-◌, ◌<�
 use native.Mathlib.Nat.{sub-zero}
 use borrow.Author.Tests.{lt-leb}
 use Rattle.format.specs.declared.Format.TheVariants.{Extended}
-use Rattle.format.specs.declared.Refusal.TheVariants as refusal
 use Rattle.format.specs.Refusals.{Result, value, refused, guarded}
 use Rattle.frame.specs.Judge.{Judged, judge}
 use Rattle.stream.specs.declared.Progress.TheVariants.{Idle}

@@ -1,5 +1,5 @@
 -- What a call keeps, and what it hands back, where it is not refused.
-use Rattle.std.proofs.Common.{◌≡◌, ℕ, zero, suc, ◌+◌, ◌-◌, ◌≤◌, Bool, true, false, cond, not, ◌≢◌, List, [], ◌∷◌, ◌++◌, length, take, drop, sym, refl, ap, ◌∙◌, arith, length-drop, drop-drop, eq-eqb, eqb-true}
+use Rattle.std.proofs.Common.{◌≡◌, ℕ, zero, suc, ◌+◌, ◌-◌, ◌≤◌, Bool, true, false, cond, not, ◌≢◌, List, length, take, drop, sym, refl, ap, ◌∙◌, arith, length-drop, drop-drop, eq-eqb, eqb-true}
 use lib.Seq.{take-append_seam}
 use Rattle.format.specs.declared.Format.TheVariants.{Extended}
 use Rattle.format.specs.Refusals.{Result, value, refused}
@@ -10,8 +10,8 @@ use Rattle.trace.specs.Records.{Found, whole, damaged, cut, none, record_at}
 use Rattle.trace.specs.Claims.{Sized}
 use Rattle.trace.proofs.Arriving.{sized}
 use Rattle.lister.specs.declared.Listing.{Listing}
-use Rattle.lister.specs.Listing.{new_listing, Stand, listed_one, Reason, room, Reached, reached, listed_by, listed, has_room, AfterListing, handed_back, begun, listing}
-use Rattle.lister.specs.Claims.{sound_listing, listing_at, Part, called, ListingStaysSound}
+use Rattle.lister.specs.Listing.{Stand, listed_one, Reason, room, Reached, reached, listed_by, listed, has_room, AfterListing, handed_back, begun, listing}
+use Rattle.lister.specs.Claims.{sound_listing, ListingStaysSound}
 use Rattle.lister.proofs.Rounds.{kept}
 use Rattle.lister.proofs.Calling.{at_all}
 

@@ -1,6 +1,6 @@
 -- What is proved of listings, and document 01's listing program as a whole. The proofs stand in proofs/Soundness.antt (the first claim),
 -- proofs/InParts.antt and proofs/Answers.antt (the last).
-use Rattle.std.specs.Prelude.{◌≡◌, ℕ, Bool, true, false, ◌≢◌, List, [], ◌∷◌, ◌++◌, length, take, drop}
+use Rattle.std.specs.Prelude.{◌≡◌, ℕ, Bool, true, ◌≢◌, List, [], ◌∷◌, ◌++◌, length, take, drop}
 use Rattle.format.specs.Refusals.{Result, value, refused}
 use Rattle.format.specs.Outputs.{answer, output_after}
 use Rattle.station.specs.Stations.{sound_station, full_size}

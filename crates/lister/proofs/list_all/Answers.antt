@@ -2,7 +2,7 @@
 use Rattle.std.proofs.Common.{◌≡◌, ℕ, ◌+◌, ◌≤◌, List, length, drop, arith, length-drop}
 use Rattle.slot.specs.declared.Slot.{Slot}
 use Rattle.trace.specs.Records.{whole, record_at}
-use Rattle.lister.proofs.Rounds.{Midst, midst, stops_empty, stops_cut, stops_damaged, stops-room, fits, goes_on, seen, told_of}
+use Rattle.lister.proofs.Rounds.{Midst, stops_empty, stops_cut, stops_damaged, stops-room, fits, goes_on, seen, told_of}
 use Rattle.lister.proofs.list_all.Goals as goal
 
 -- a record takes some of what is left, and no more than that

@@ -1,5 +1,5 @@
 -- `lister::Listing::list` meets its contract: refused, or all that can be listed (Calling).
-use Rattle.std.proofs.Common.{not, sym, ap, ◌∙◌, arith}
+use Rattle.std.proofs.Common.{not, sym, ap, ◌∙◌}
 use Rattle.lister.proofs.Calling.{at_state, at_store, at_all}
 use Rattle.lister.proofs.Listing.list.Goals as goal
 
