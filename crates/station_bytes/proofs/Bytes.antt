@@ -4,7 +4,7 @@ use native.Mathlib.Omega.{arith}
 use mathlib.Core.Path.{◌≡◌, refl, ◌∙◌, sym, ap}
 use mathlib.Core.Bool.{Bool, true, false, cond, not, false≢true}
 use mathlib.Core.List.{List, [], ◌∷◌, ◌++◌, append_assoc}
-use lib.Dec.{eqb, leb}
+use lib.Dec.{eqb}
 use lib.ListN.{length, get_or, set, take, drop, length-append, drop_of_length-le, take-append-drop}
 use lib.Seq.{split_at, set_split, take-add, drop-drop, drop-cons, take_at, drop_at, length-take-le}
 use borrow.Author.Tests.{eqb-true, leb-true}
@@ -13,13 +13,9 @@ use Rattle.copying.proofs.Copying.{all_copied}
 use Rattle.format.specs.declared.Format.{Format}
 use Rattle.format.specs.Tests.{all_true}
 use Rattle.format.proofs.Tests.{each}
-use Rattle.stream.specs.declared.Progress.{Progress}
-use Rattle.slot.specs.declared.Key.{Key}
 use Rattle.slot.specs.declared.Slot.{Slot}
 use Rattle.slot.specs.Slots.{closed_slot, open_slot, slot_at}
 use Rattle.slot.specs.Codes.{key_code, clashing}
-use Rattle.station.specs.declared.Station.{Station}
-use Rattle.station.specs.Stations.{station_of, with_slots}
 use Rattle.words.specs.Words.{word_bytes, word_at}
 use Rattle.words.proofs.Laws.{written_at, four}
 use Rattle.station_bytes.specs.States.{layout_number, format_number, format_in, format_at, progress_number, progress_from, key_in, first_of, second_of, slot_bytes, slots_bytes, state_bytes, slot_in, slots_from, slot_written, slots_written, station_in, is_state}

@@ -3,19 +3,19 @@ use Prim.Native.Nat.{ℕ, ◌+◌, ◌*◌, ◌≤◌, ◌<◌}
 use native.Mathlib.Omega.{arith}
 use mathlib.Core.Path.{◌≡◌, refl, ◌∙◌, sym, ap}
 use mathlib.Core.Logic.{◌≢◌}
-use mathlib.Core.Bool.{Bool, true, false, cond, not, ◌&&◌, false≢true}
+use mathlib.Core.Bool.{Bool, true, false, cond, ◌&&◌, false≢true}
 use mathlib.Core.List.{List}
-use lib.Dec.{eqb, leb}
-use lib.ListN.{length, set}
+use lib.Dec.{eqb}
+use lib.ListN.{length}
 use borrow.Author.Tests.{eq-eqb, eqb-true, le-leb}
 use Rattle.copying.specs.Copy.{copied}
 use Rattle.format.specs.declared.Format.{Format}
 use Rattle.format.specs.declared.Refusal.{Refusal}
 use Rattle.format.specs.declared.Refusal.TheVariants as refusal
-use Rattle.format.specs.Refusals.{Result, value, refused, number, checked_then}
+use Rattle.format.specs.Refusals.{value, refused, number, checked_then}
 use Rattle.format.specs.Tests.{all_true}
 use Rattle.format.proofs.Tests.{each}
-use Rattle.frame.specs.Judge.{Frame, Judged, judge}
+use Rattle.frame.specs.Judge.{Judged, judge}
 use Rattle.stream.specs.declared.Answer.{Answer}
 use Rattle.stream.specs.declared.Answer.TheVariants.{Refused, Filtered}
 use Rattle.stream.specs.declared.Progress.{Progress}
@@ -25,22 +25,20 @@ use Rattle.slot.specs.declared.Key.{Key}
 use Rattle.slot.specs.declared.Occupancy.{Occupancy}
 use Rattle.slot.specs.declared.Occupancy.TheVariants.{Closed, Open}
 use Rattle.slot.specs.declared.Slot.{Slot}
-use Rattle.slot.specs.Slots.{closed_slot, open_slot, slot_at, same_key, open_with, has_key, place}
+use Rattle.slot.specs.Slots.{closed_slot, open_slot, slot_at, open_with, has_key, place}
 use Rattle.slot.specs.Sound.{key_in_range, slots_sound, sound}
 use Rattle.slot.specs.Codes.{key_code, codes_from, is}
 use Rattle.slot.proofs.Keys.{same_key_lem}
 use Rattle.slot.proofs.Places.{place_holds}
 use Rattle.slot.proofs.CodeLaws.{find_key}
-use Rattle.station.specs.declared.Station.{Station}
-use Rattle.station.specs.declared.Turn.{Turn}
 use Rattle.station.specs.Stations.{station_of, sound_station, area, with_area}
 use Rattle.station.specs.Receive as receiving
 use Rattle.station.specs.Receive.{After, key_of, progress_of, after_turn}
 use Rattle.station.specs.Parts.{refused_as, Steps}
-use Rattle.station.proofs.Turning.{Leaves, names_none, unmoved, turn_of, at_store, at_field, at-image, at_none, at_slot}
+use Rattle.station.proofs.Turning.{names_none, unmoved, turn_of, at_store, at_field, at-image, at_none, at_slot}
 use Rattle.words.specs.Words.{word_bytes, word_at}
-use Rattle.station_bytes.specs.States.{end_bytes, format_at, progress_number, progress_from, key_in, first_of, slot_in, slots_from, slots_bytes, state_bytes, station_in, is_state}
-use Rattle.station_bytes.specs.Calls.{BytesAfter, in_bytes, receive_in, bytes_after}
+use Rattle.station_bytes.specs.States.{end_bytes, format_at, progress_number, progress_from, key_in, first_of, slots_from, state_bytes, station_in, is_state}
+use Rattle.station_bytes.specs.Calls.{in_bytes, receive_in, bytes_after}
 use Rattle.station_bytes.specs.Parts.{Tested, StepsIn}
 use Rattle.station_bytes.proofs.Scans.{slots_length}
 use Rattle.station_bytes.proofs.Bytes.{put_second}

@@ -5,7 +5,7 @@ use mathlib.Core.Path.{◌≡◌, refl, ◌∙◌, sym, ap}
 use mathlib.Core.Logic.{◌≢◌}
 use mathlib.Core.Bool.{Bool, true, false, cond, not}
 use mathlib.Core.List.{List}
-use lib.Dec.{eqb, ltb}
+use lib.Dec.{eqb}
 use lib.ListN.{length, set}
 use borrow.Author.Tests.{le-ltb, lt-ltb}
 use Rattle.copying.specs.Copy.{copied}
@@ -18,14 +18,13 @@ use Rattle.format.specs.Formats.{format_of}
 use Rattle.format.specs.Tests.{all_true}
 use Rattle.format.proofs.Tests.{each, from_each}
 use Rattle.stream.specs.declared.Progress.{Progress}
-use Rattle.stream.specs.declared.Progress.TheVariants.{Idle, Done}
+use Rattle.stream.specs.declared.Progress.TheVariants.{Idle}
 use Rattle.slot.specs.declared.Key.{Key}
 use Rattle.slot.specs.declared.Slot.{Slot}
 use Rattle.slot.specs.Slots.{closed_slot, open_slot, slot_at, is_closed, has_key, place}
 use Rattle.slot.specs.Sound.{same_format, key_in_range}
-use Rattle.slot.specs.Codes.{key_code, is}
+use Rattle.slot.specs.Codes.{key_code}
 use Rattle.slot.proofs.CodeLaws.{sought_unsound}
-use Rattle.station.specs.declared.Station.{Station}
 use Rattle.station.specs.Stations.{sound_station, with_slots}
 use Rattle.station.specs.Receive.{progress_of}
 use Rattle.station.specs.Open as handing
@@ -39,7 +38,7 @@ use Rattle.station_bytes.specs.Calls.{StateAfter, as_state, not_state, open_in, 
 use Rattle.station_bytes.specs.Parts.{Tested}
 use Rattle.station_bytes.proofs.Bytes.{put_both}
 use Rattle.station_bytes.proofs.Places.{slot_is, closed_is}
-use Rattle.station_bytes.proofs.Calling.{Sound, unsound, sixteen, key_place}
+use Rattle.station_bytes.proofs.Calling.{Sound, unsound, sixteen}
 
 -- a refusal hands back the station handed in, so the bytes stay
 refused_as_lem : (state : List ℕ) → state_bytes (station_in state) ≡ state → (n : ℕ) (given : handing.StationAfter)

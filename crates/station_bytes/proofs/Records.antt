@@ -10,7 +10,7 @@ use Rattle.stream.specs.declared.Progress.TheVariants.{Idle, Collecting, Done}
 use Rattle.format.specs.declared.Format.{Format}
 use Rattle.format.specs.declared.Format.TheVariants.{Extended, Standard}
 use Rattle.format.specs.Formats.{piece_size, packet_limit, in_range}
-use Rattle.format.specs.Tests.{all_true, all_after}
+use Rattle.format.specs.Tests.{all_true}
 use Rattle.slot.specs.Sound.{most_held, key_in_range, fits, slot_sound}
 use Rattle.slot.specs.Slots.{closed_slot, open_slot}
 use Rattle.slot.specs.Codes.{key_code, slot_code}

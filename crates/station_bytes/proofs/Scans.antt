@@ -13,9 +13,9 @@ use Rattle.format.specs.Tests.{all_true}
 use Rattle.format.proofs.Tests.{each}
 use mathlib.Core.Logic.{◌≢◌}
 use Rattle.slot.specs.declared.Slot.{Slot}
-use Rattle.slot.specs.Slots.{closed_slot, slot_at}
+use Rattle.slot.specs.Slots.{slot_at}
 use Rattle.slot.specs.Sound.{slot_sound, slots_sound, keys_differ, sound}
-use Rattle.slot.specs.Codes.{codes_from, slot_code, clashing}
+use Rattle.slot.specs.Codes.{codes_from, clashing}
 use Rattle.slot.proofs.CodeLaws.{sound_codes}
 use Rattle.slot.proofs.Rows.{row_next, row_full}
 use Rattle.station.specs.Stations.{sound_station}

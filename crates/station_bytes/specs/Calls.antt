@@ -1,7 +1,7 @@
 -- The calls on a station whose state is in lent bytes. Each is the station's own, on the station that the bytes are: its answer, the bytes
 -- of the station that it hands back, and the store. Document 01, "Refusal numbers", 21: bytes that are no station's are refused with
 -- STATE, before all else, and nothing changes.
-use Rattle.std.specs.Prelude.{ℕ, cond, List, [], ◌∷◌, eqb, length}
+use Rattle.std.specs.Prelude.{ℕ, cond, List, eqb, length}
 use Rattle.format.specs.declared.Format.{Format}
 use Rattle.format.specs.declared.Refusal.TheVariants.{State}
 use Rattle.format.specs.declared.Outcome.{Outcome}

@@ -1,10 +1,10 @@
 -- `station_bytes::new` meets its contract: all bytes are written.
-use Rattle.std.proofs.Common.{ℕ, ◌≡◌, List, ap, ◌∙◌, arith, eq-eqb, ne_eqb}
+use Rattle.std.proofs.Common.{ℕ, List, ap, ◌∙◌, arith, eq-eqb, ne_eqb}
 use Rattle.std.proofs.Math.ListN.{set, replicate}
 use Rattle.format.specs.Refusals.{value}
 use Rattle.copying.proofs.Filling.{whole}
 use Rattle.station_bytes.specs.States.{layout_number}
-use Rattle.station_bytes.specs.Calls.{StateAfter, renewed}
+use Rattle.station_bytes.specs.Calls.{renewed}
 use Rattle.station_bytes.proofs.Places.{new_bytes}
 use Rattle.station_bytes.proofs.new.Goals as goal
 

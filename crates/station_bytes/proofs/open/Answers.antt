@@ -1,5 +1,5 @@
 -- `station_bytes::open` meets its contract: each refusal in its order, else the lowest closed slot's record is written (Handing).
-use Rattle.std.proofs.Common.{◌∙◌, sym, refl, arith}
+use Rattle.std.proofs.Common.{sym, refl, arith}
 use Rattle.station_bytes.proofs.Calling.{sound_of, state_size, key_place}
 use Rattle.station_bytes.proofs.Handing.{open_state, open-field, open-taken, open_full, open-lowest, own_number}
 use Rattle.station_bytes.proofs.open.Goals as goal

@@ -1,5 +1,5 @@
 -- `station_bytes::sound_codes` meets its contract: each answer, by what was found out (Bytes).
-use Rattle.std.proofs.Common.{◌∙◌, sym, arith}
+use Rattle.std.proofs.Common.{arith}
 use Rattle.station_bytes.proofs.Scans.{not_length, not_end}
 use Rattle.station_bytes.proofs.Bytes.{tested_none, tested-bad, tested-good}
 use Rattle.station_bytes.proofs.sound_codes.Goals as goal
