@@ -1,18 +1,20 @@
 // Acceptance filters over ID.28 to ID.13 of the extended identifier: bytes 1 and 2 of an extended
 // image, that is priority (2 bits), source (6), group (2) and destination (6).
+#![tactic(auto)]
+
 ghost use Rattle.std.specs.Prelude.{◌≡◌, ◌+◌, ◌*◌};
 ghost use Rattle.filter.specs.Filters.{accepts, either_accepts, row_pair};
 ghost use Rattle.filter.specs.Claims.{InImage};
 ghost use Rattle.filter.specs.Examples.{FilterExamples};
 
 // A mask bit that is 1 lets any identifier bit pass.
-#[derive(Drop)]
+#[derive(Clone, Copy)]
 pub struct Filter {
     pub code: u16,
     pub mask: u16,
 }
 
-#[derive(Drop)]
+#[derive(Clone, Copy)]
 pub struct Pair {
     pub first: Filter,
     pub second: Filter,
@@ -39,6 +41,7 @@ fn joined(high: u8, low: u8) -> u16
 
 impl Pair {
     // Whether either filter accepts.
+    #[tactic(auto, unfolding(crate::specs::Filters::either_accepts))]
     pub fn accepts(self, id: u16) -> bool
         ensures { result ≡ either_accepts self id }
     {
