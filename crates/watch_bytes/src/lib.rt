@@ -1,5 +1,7 @@
 // A watch whose state is in lent bytes: the last heard time of bus A and of bus B, each a number of 32 bits,
 // low byte first, and the layout's number.
+#![tactic(auto)]
+
 ghost use Rattle.std.specs.Prelude.{◌≡◌, length};
 ghost use Rattle.watch_bytes.specs.States as states;
 ghost use Rattle.watch_bytes.specs.Claims as claims;
@@ -20,6 +22,7 @@ impl State {
 }
 
 // Whether the bytes are a watch's.
+#[tactic(auto, unfolding(crate::specs::States::is_state, format::specs::Tests::all_true))]
 fn is_state(state: &[u8]) -> bool
     ensures { result ≡ states.is_state state.now }
 {
@@ -39,6 +42,7 @@ fn put(state: &mut [u8], watch: Watch)
     copy_in(state, 4, &[b[0], b[1], b[2], b[3], State::LAYOUT]);
 }
 
+#[tactic(auto, unfolding(crate::specs::States::watch_in, words::specs::Words::word_at))]
 fn load(state: &[u8]) -> Watch
     requires { length state.now ≡ 9 }
     ensures { result ≡ states.watch_in state.now }
@@ -50,6 +54,7 @@ fn load(state: &[u8]) -> Watch
 }
 
 // Makes the bytes those of a watch that begins at the time. Answers 0, or refuses: STATE.
+#[tactic(auto, unfolding(crate::specs::States::renew))]
 pub fn new(state: &mut [u8], time: u32) -> Outcome
     ensures { states.watch_bytes_after result state.new ≡ states.renew state.old time }
 {
