@@ -1,6 +1,6 @@
 -- compare/PROTOCOL.md, "Stations, both fronts, and splitting" but for 6 COUNT and 7 PIECE (Images), and "Listings": what a request does to
 -- the station and what is lent to it. The program holds "40,000 bytes [..] of which the first `lent` are lent to the calls as their store".
-use Rattle.std.specs.Prelude.{ℕ, ◌+◌, ◌%◌, cond, List, ◌++◌, length, take, drop, set, replicate, ◌==◌, nat_lt, slice_set}
+use Rattle.std.specs.Prelude.{ℕ, ◌+◌, ◌%◌, cond, List, ◌++◌, length, take, drop, replicate, ◌==◌, nat_lt, slice_set}
 use Rattle.copying.specs.Copy.{written, copied}
 use Rattle.station.specs.declared.Station.{Station}
 use Rattle.station.specs.Stations as stations

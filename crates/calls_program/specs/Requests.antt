@@ -1,6 +1,6 @@
 -- compare/PROTOCOL.md: what stands where in the arguments of a request. "Numbers of more than one byte have their high byte first." A byte
 -- past the end is 0, which no request has (Operations).
-use Rattle.std.specs.Prelude.{◌≡◌, ℕ, ◌+◌, ◌-◌, ◌*◌, ◌%◌, cond, List, [], ◌∷◌, length, drop, replicate, ◌==◌, nat_le, slice_index, slice_range, slice_set}
+use Rattle.std.specs.Prelude.{◌≡◌, ℕ, ◌+◌, ◌*◌, ◌%◌, cond, List, [], ◌∷◌, length, drop, replicate, ◌==◌, nat_le, slice_index, slice_range, slice_set}
 use Rattle.format.specs.declared.Format.{Format}
 use Rattle.format.specs.declared.Format.TheVariants.{Extended, Standard}
 use Rattle.format.specs.declared.Fields.{Fields}

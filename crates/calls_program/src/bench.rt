@@ -11,7 +11,7 @@ use format::Format;
 use master::Master;
 use watch::Watch;
 
-#[derive(Drop)]
+#[derive(Clone, Copy)]
 pub struct Bench {
     pub desk: Desk,
     pub master: Master,
@@ -19,7 +19,7 @@ pub struct Bench {
 }
 
 // The bench after a request, and the size of the response.
-#[derive(Drop)]
+#[derive(Clone, Copy)]
 pub struct Done {
     pub bench: Bench,
     pub size: usize,
@@ -75,6 +75,7 @@ fn with_watch(bench: Bench, done: watches::Done) -> Done
 }
 
 // Whether an operation keeps nothing between requests. Splitting stands among those on a station.
+#[tactic(auto, unfolding(crate::specs::Benches::is_image, format::specs::Tests::all_true, format::specs::Tests::all_after))]
 fn is_image(operation: u8) -> bool
     ensures { result ≡ is_image operation }
 {
@@ -88,6 +89,7 @@ fn is_image(operation: u8) -> bool
 }
 
 // What works on the station and what is lent to it.
+#[tactic(auto, unfolding(crate::specs::Benches::desk_done))]
 fn change_desk(bench: Bench, bytes: &mut [u8], operation: u8, args: &[u8], out: &mut [u8]) -> Done
     ensures { as_bench result bytes.new out.new ≡ desk_done operation args.now bench bytes.old out.old }
 {
@@ -99,6 +101,7 @@ fn change_desk(bench: Bench, bytes: &mut [u8], operation: u8, args: &[u8], out: 
 }
 
 // What works on the master or the watch; the bytes stay.
+#[tactic(auto, unfolding(crate::specs::Benches::other_done))]
 fn change_other(bench: Bench, operation: u8, args: &[u8], out: &mut [u8]) -> Done
     ensures { (bytes : List ℕ) → as_bench result bytes out.new ≡ other_done operation args.now bench bytes out.old }
 {

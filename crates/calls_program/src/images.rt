@@ -34,6 +34,7 @@ fn count(args: &[u8], out: &mut [u8]) -> usize
 }
 
 // The call of PIECE, on an output that is all EE.
+#[tactic(auto, unfolding(crate::specs::Images::piece_in))]
 fn piece_over(args: &[u8], output: &mut [u8]) -> Outcome
     ensures result_value { meaning result ≡ answer (piece_in args.now (length output.old)) }
     ensures output_after { output.new ≡ output_after (piece_in args.now (length output.old)) (replicate (length output.old) 0xEE) }
@@ -44,6 +45,7 @@ fn piece_over(args: &[u8], output: &mut [u8]) -> Outcome
 }
 
 // The output lent to the call is the part of the response after the answer.
+#[tactic(auto, unfolding(crate::specs::Images::piece_done))]
 fn piece(args: &[u8], out: &mut [u8]) -> usize
     ensures value { result ≡ (piece_done args.now out.old).size }
     ensures out_after { out.new ≡ (piece_done args.now out.old).output }
@@ -58,6 +60,7 @@ fn piece(args: &[u8], out: &mut [u8]) -> usize
 }
 
 // Where the packet bytes begin, then format, fields, flag and number.
+#[tactic(auto, unfolding(crate::specs::Images::with_frame))]
 fn put_head(out: &mut [u8], head: Head) -> usize
     ensures value { result ≡ 12 }
     ensures out_after { out.new ≡ with_frame out.old head.start head.fields head.flag head.number }
@@ -71,6 +74,7 @@ fn put_head(out: &mut [u8], head: Head) -> usize
     12
 }
 
+#[tactic(auto, unfolding(crate::specs::Images::judge_done))]
 fn judge(args: &[u8], out: &mut [u8]) -> usize
     ensures value { result ≡ (judge_done args.now out.old).size }
     ensures out_after { out.new ≡ (judge_done args.now out.old).output }
@@ -111,12 +115,13 @@ fn accepted(bytes: &mut [u8], pair: Pair, alone: bool, first: u16)
     let mut i = 0;
     while i < bytes.len() {
         bytes[i] = flag_byte(accepts(pair, alone, id));
-        id = std::num::wrapping_add_u16(id, 1);
+        id = id.wrapping_add(1);
         i += 1;
     }
 }
 
 // From and how many stand at a place of the request.
+#[tactic(auto, unfolding(crate::specs::Images::accepted_done))]
 fn put_accepted(out: &mut [u8], pair: Pair, alone: bool, args: &[u8], at: u8) -> usize
     ensures value { result ≡ (accepted_done (asked pair alone) args.now at out.old).size }
     ensures out_after { out.new ≡ (accepted_done (asked pair alone) args.now at out.old).output }
@@ -130,6 +135,7 @@ fn put_accepted(out: &mut [u8], pair: Pair, alone: bool, args: &[u8], at: u8) ->
     n
 }
 
+#[tactic(auto, unfolding(crate::specs::Images::filter_done))]
 fn filter(args: &[u8], out: &mut [u8]) -> usize
     ensures value { result ≡ (filter_done args.now out.old).size }
     ensures out_after { out.new ≡ (filter_done args.now out.old).output }
@@ -146,6 +152,7 @@ fn filter(args: &[u8], out: &mut [u8]) -> usize
 }
 
 // The pair of the row that stands at the head of the request.
+#[tactic(auto, unfolding(filter::specs::Filters::row_pair))]
 fn row_pair(args: &[u8]) -> Pair
     ensures { result ≡ filters.row_pair args.now }
 {
@@ -162,6 +169,7 @@ fn row_pair(args: &[u8]) -> Pair
     Pair::from_row(row)
 }
 
+#[tactic(auto, unfolding(crate::specs::Images::row_done))]
 fn row(args: &[u8], out: &mut [u8]) -> usize
     ensures value { result ≡ (row_done args.now out.old).size }
     ensures out_after { out.new ≡ (row_done args.now out.old).output }
@@ -191,6 +199,7 @@ fn line_over(line: Line, output: &mut [u8]) -> Outcome
     trace::write_line(line, output)
 }
 
+#[tactic(auto, unfolding(crate::specs::Images::line_done))]
 fn line(args: &[u8], out: &mut [u8]) -> usize
     ensures value { result ≡ (line_done args.now out.old).size }
     ensures out_after { out.new ≡ (line_done args.now out.old).output }
@@ -205,6 +214,7 @@ fn line(args: &[u8], out: &mut [u8]) -> usize
 }
 
 // Writes the response, and answers its size.
+#[tactic(auto, unfolding(crate::specs::Images::image_done))]
 pub fn respond(operation: u8, args: &[u8], out: &mut [u8]) -> usize
     ensures value { result ≡ (image_done operation args.now out.old).size }
     ensures out_after { out.new ≡ (image_done operation args.now out.old).output }

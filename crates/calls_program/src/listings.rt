@@ -145,6 +145,7 @@ fn end(desk: Desk, args: &[u8], out: &mut [u8]) -> usize
 }
 
 // Does what a request on a listing asks for, and writes the response.
+#[tactic(auto, unfolding(crate::specs::Desks::listing_done))]
 pub fn respond(desk: Desk, bytes: &mut [u8], operation: u8, args: &[u8], out: &mut [u8]) -> Done
     ensures { as_done result bytes.new out.new ≡ listing_done operation args.now desk bytes.old out.old }
 {

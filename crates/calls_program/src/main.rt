@@ -1,5 +1,7 @@
 // Reads requests from standard input, calls the library, and writes a response to each to standard
 // output: compare/PROTOCOL.md.
+#![tactic(auto)]
+
 mod bench;
 mod images;
 mod listings;
@@ -15,10 +17,11 @@ ghost use Rattle.calls_program.specs.Working.{span_at, start_at, stopped_work, a
 ghost use Rattle.calls_program.specs.Working.{GoesOn, Turned, first_bytes};
 
 use bench::Bench;
+use std::io::{Input, Print};
 
 // Where the work stands on a filled input: the place of the next request, and how much of the
 // output is filled.
-#[derive(Drop)]
+#[derive(Clone, Copy)]
 struct Work {
     bench: Bench,
     at: usize,
@@ -27,14 +30,14 @@ struct Work {
 }
 
 // Between two reads: how many bytes of the input are not worked off yet, and whether to go on.
-#[derive(Drop)]
+#[derive(Clone, Copy)]
 struct Held {
     held: usize,
     going: bool,
 }
 
 // The same, with the bench.
-#[derive(Drop)]
+#[derive(Clone, Copy)]
 struct Session {
     bench: Bench,
     held: usize,
@@ -42,7 +45,7 @@ struct Session {
 }
 
 // Where a request stands in the input, without its length; to is 0 if it is not whole.
-#[derive(Drop)]
+#[derive(Clone, Copy)]
 struct Span {
     from: usize,
     to: usize,
@@ -54,6 +57,7 @@ fn nowhere() -> Span
     Span { from: 0, to: 0 }
 }
 
+#[tactic(auto, unfolding(crate::specs::Working::span_at, crate::specs::Working::request_end))]
 fn request_at(input: &[u8], at: usize) -> Span
     ensures from_le_to { (result.from ≤ result.to) × (result.to ≤ length input.now) }
     ensures value { result ≡ span_at input.now at }
@@ -74,6 +78,7 @@ fn request_at(input: &[u8], at: usize) -> Span
 
 // Where the next response starts in an output of so many bytes, after the two bytes of its length;
 // 0 if there might not be room for the longest.
+#[tactic(auto, unfolding(crate::specs::Working::start_at))]
 fn start_of(room: usize, filled: usize, most: usize) -> usize
     ensures upper_bound { result ≤ room }
     ensures value { result ≡ start_at room filled most }
@@ -162,11 +167,18 @@ fn ended() -> Held
 
 // Writes the responses, and reads on after what is left. Where a whole request is left, as the
 // output had no room, it does not read: its response must not wait for more input.
-fn go_on(input: &mut [u8], at: usize, held: usize, output: &[u8], filled: usize) -> Held
+fn go_on(
+    rt: &(impl Input + Print + Eprint),
+    input: &mut [u8],
+    at: usize,
+    held: usize,
+    output: &[u8],
+    filled: usize,
+) -> Held
     requires { held ≤ length input.old }
     ensures { GoesOn input.old at held result input.new }
 {
-    if !pipes::write_out(output, filled) {
+    if !pipes::write_out(rt, output, filled) {
         return ended();
     }
     let left = pipes::keep(input, at, held);
@@ -177,7 +189,7 @@ fn go_on(input: &mut [u8], at: usize, held: usize, output: &[u8], filled: usize)
             going: true,
         };
     }
-    let more = pipes::read_on(input, left);
+    let more = pipes::read_on(rt, input, left);
     Held {
         held: more,
         going: left < more,
@@ -185,7 +197,13 @@ fn go_on(input: &mut [u8], at: usize, held: usize, output: &[u8], filled: usize)
 }
 
 // Works off what is held of the input, writes the responses and reads on.
-fn turn(session: Session, bytes: &mut [u8], input: &mut [u8], output: &mut [u8]) -> Session
+fn turn(
+    rt: &(impl Input + Print + Eprint),
+    session: Session,
+    bytes: &mut [u8],
+    input: &mut [u8],
+    output: &mut [u8],
+) -> Session
     requires { (length bytes.old ≡ 40000) × (session.held ≤ length input.old) }
     ensures { Turned session bytes.old input.old output.old result bytes.new input.new output.new }
 {
@@ -193,7 +211,7 @@ fn turn(session: Session, bytes: &mut [u8], input: &mut [u8], output: &mut [u8])
     let held = session.held;
     let work = work_off(bench, bytes, &input[..held], output);
     let next = work.bench;
-    let left = go_on(input, work.at, held, output, work.filled);
+    let left = go_on(rt, input, work.at, held, output, work.filled);
     Session {
         bench: next,
         held: left.held,
@@ -203,7 +221,7 @@ fn turn(session: Session, bytes: &mut [u8], input: &mut [u8], output: &mut [u8])
 
 // A proved loop has to end, and nothing says that the input does: the turns are counted down from
 // a number that no run uses up.
-fn serve(bytes: &mut [u8], input: &mut [u8], output: &mut [u8])
+fn serve(rt: &(impl Input + Print + Eprint), bytes: &mut [u8], input: &mut [u8], output: &mut [u8])
     requires { (bytes.old ≡ first_bytes) × (65537 ≤ length input.old) × (40002 ≤ length output.old) }
 {
     let bench = bench::new();
@@ -214,16 +232,16 @@ fn serve(bytes: &mut [u8], input: &mut [u8], output: &mut [u8])
     };
     let mut turns = u64::MAX;
     while turns > 0 && session.going {
-        session = turn(session, bytes, input, output);
+        session = turn(rt, session, bytes, input, output);
         turns -= 1;
     }
 }
 
 // The input has room for the longest request, of 65,537 bytes, and the output for the longest
 // response, of 40,002.
-fn main() {
+fn main(rt: HostRuntime) {
     let mut bytes = [0u8; operations::BYTES];
     let mut input = [0u8; 131072];
     let mut output = [0u8; 131072];
-    serve(&mut bytes, &mut input, &mut output);
+    serve(&rt, &mut bytes, &mut input, &mut output);
 }

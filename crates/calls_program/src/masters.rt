@@ -18,7 +18,7 @@ const CHOSEN: usize = 7;
 const WITH_MASTER: usize = 71;
 
 // The master after a request, and the size of the response.
-#[derive(Drop)]
+#[derive(Clone, Copy)]
 pub struct Done {
     pub master: Master,
     pub size: usize,
@@ -54,6 +54,7 @@ fn put_activity(out: &mut [u8], activity: Activity)
 }
 
 // The response to a call: the answer, which is written already, and the master.
+#[tactic(auto, unfolding(crate::specs::Responses::out_with_master))]
 fn changed(master: Master, out: &mut [u8]) -> Done
     ensures value { result ≡ record { master = master; size = 71 } }
     ensures out_after { out.new ≡ out_with_master out.old master }
@@ -99,6 +100,7 @@ fn set(master: Master, out: &mut [u8]) -> Done
     changed(master, out)
 }
 
+#[tactic(auto, unfolding(crate::specs::Requests::activity_named))]
 fn activity_of(kind: u8, node: u8, sends: u8) -> Activity
     ensures { result ≡ activity_named kind node sends }
 {
@@ -114,6 +116,7 @@ fn activity_of(kind: u8, node: u8, sends: u8) -> Activity
 }
 
 // A master by hand: A chosen for every node but one, and an exchange or none.
+#[tactic(auto, unfolding(crate::specs::Requests::master_named))]
 fn by_hand(args: &[u8]) -> Master
     ensures { result ≡ master_named args.now }
 {
@@ -128,6 +131,7 @@ fn by_hand(args: &[u8]) -> Master
 }
 
 // Does what a request on a master asks for, and writes the response.
+#[tactic(auto, unfolding(crate::specs::Operations::master_done))]
 pub fn respond(master: Master, operation: u8, args: &[u8], out: &mut [u8]) -> Done
     ensures value { result ≡ record { master = (master_done operation args.now master).master; size = 71 } }
     ensures out_after { out.new ≡ out_with_master (copied out.old 0 (master_done operation args.now master).answer) (master_done operation args.now master).master }

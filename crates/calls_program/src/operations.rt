@@ -76,6 +76,7 @@ const ROOM: usize = 4096;
 
 // Whether a request of the operation may have so many argument bytes. Numbers that follow each other
 // have arms of their own: of such an arm the prover makes a range.
+#[tactic(auto, unfolding(crate::specs::Operations::args_fit, crate::specs::Operations::ruled, crate::specs::Operations::among))]
 fn fits(operation: u8, size: usize) -> bool
     ensures { result ≡ args_fit operation size }
 {
@@ -132,6 +133,7 @@ fn within_others(operation: u8, args: &[u8]) -> bool
     }
 }
 
+#[tactic(auto, unfolding(crate::specs::Operations::is_request, format::specs::Tests::all_true, format::specs::Tests::all_after))]
 pub fn is_request(operation: u8, args: &[u8]) -> bool
     ensures { result ≡ is_request operation args.now }
 {

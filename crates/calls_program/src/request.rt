@@ -22,6 +22,7 @@ pub fn byte(args: &[u8], at: usize) -> u8
 }
 
 // What stands between two places; nothing if the second is past the end.
+#[tactic(auto, unfolding(crate::specs::Requests::bytes_between))]
 pub fn part(args: &[u8], from: usize, to: usize) -> &[u8]
     ensures { result.now ≡ bytes_between args.now from to }
 {
@@ -55,6 +56,7 @@ pub fn number(args: &[u8], at: usize) -> usize
 }
 
 // The four-byte number at a place.
+#[tactic(auto, unfolding(crate::specs::Requests::number4_at))]
 pub fn word(args: &[u8], at: u16) -> u32
     ensures { result ≡ number4_at args.now at }
 {
@@ -65,6 +67,7 @@ pub fn word(args: &[u8], at: u16) -> u32
 }
 
 // The eight-byte number at a place.
+#[tactic(auto, unfolding(crate::specs::Requests::number8_at))]
 pub fn long(args: &[u8], at: u8) -> u64
     ensures { result ≡ number8_at args.now at }
 {
@@ -75,6 +78,7 @@ pub fn long(args: &[u8], at: u8) -> u64
 }
 
 // The format of a byte that is at most 1.
+#[tactic(auto, unfolding(crate::specs::Requests::format_named))]
 pub fn format_of(code: u8) -> Format
     ensures { result ≡ format_named code }
 {
@@ -85,6 +89,7 @@ pub fn format_of(code: u8) -> Format
 }
 
 // The five bytes from a place on, as they are; a standard identifier has only three fields.
+#[tactic(auto, unfolding(crate::specs::Requests::fields_at))]
 pub fn fields(args: &[u8], at: u16, format: Format) -> Fields
     ensures { result ≡ fields_at args.now at format }
 {
@@ -106,6 +111,7 @@ pub fn fields(args: &[u8], at: u16, format: Format) -> Fields
 }
 
 // A key: bus, format and five fields, from a place on.
+#[tactic(auto, unfolding(crate::specs::Requests::key_at))]
 pub fn key(args: &[u8], at: u8) -> Key
     ensures { result ≡ key_at args.now at }
 {
@@ -119,6 +125,7 @@ pub fn key(args: &[u8], at: u8) -> Key
 }
 
 // The kind of exchange of a byte that is 1 to 3.
+#[tactic(auto, unfolding(crate::specs::Requests::kind_named))]
 pub fn kind_of(code: u8) -> Kind
     ensures { result ≡ kind_named code }
 {
@@ -129,6 +136,7 @@ pub fn kind_of(code: u8) -> Kind
     }
 }
 
+#[tactic(auto, unfolding(frame::specs::Layout::flag_of))]
 fn flag_of(code: u8) -> Flag
     ensures { result ≡ flag_of code }
 {
@@ -141,6 +149,7 @@ fn flag_of(code: u8) -> Flag
 }
 
 // The refusal of a number; one that is no refusal's is read as STATE.
+#[tactic(auto, unfolding(crate::specs::Requests::refusal_named))]
 pub fn refusal_of(number: u8) -> Refusal
     ensures { result ≡ refusal_named number }
 {
@@ -176,6 +185,7 @@ pub fn each_named()
 {}
 
 // The answer in a line: ten bytes from place 20 on, of which the number's lowest names a refusal.
+#[tactic(auto, unfolding(crate::specs::Requests::answer_of_line))]
 fn answer_in(args: &[u8]) -> Answer
     ensures { result ≡ answer_of_line args.now }
 {
@@ -191,6 +201,7 @@ fn answer_in(args: &[u8]) -> Answer
     }
 }
 
+#[tactic(auto, unfolding(crate::specs::Requests::frame_of_line))]
 fn frame_in(args: &[u8]) -> Line
     ensures { result ≡ frame_of_line args.now }
 {
@@ -209,6 +220,7 @@ fn frame_in(args: &[u8]) -> Line
 }
 
 // The line of a request to write one: after the room its kind, 0 to 4, and what it shows.
+#[tactic(auto, unfolding(crate::specs::Requests::line_of))]
 pub fn line_in(args: &[u8]) -> Line
     ensures { result ≡ line_of args.now }
 {

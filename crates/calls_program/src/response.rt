@@ -28,12 +28,13 @@ pub fn fill(bytes: &mut [u8], first: u8, step: u8)
     let mut i = 0;
     while i < bytes.len() {
         bytes[i] = next;
-        next = std::num::wrapping_add_u8(next, step);
+        next = next.wrapping_add(step);
         i += 1;
     }
 }
 
 // A number that has no room in two bytes, which no call gives, is shown as the largest that has.
+#[tactic(auto, unfolding(crate::specs::Responses::capped))]
 fn shown(n: usize) -> usize
     ensures upper_bound { result < 65536 }
     ensures value { result ≡ responses.capped n }
@@ -45,6 +46,7 @@ fn shown(n: usize) -> usize
 }
 
 // The two bytes of a number.
+#[tactic(auto, unfolding(crate::specs::Responses::number2_bytes))]
 fn number_bytes(n: usize) -> [u8; 2]
     ensures { result ≡ number2_bytes n }
 {
@@ -60,6 +62,7 @@ pub fn put_number(out: &mut [u8], at: usize, n: usize)
 }
 
 // The four bytes of a number.
+#[tactic(auto, unfolding(crate::specs::Responses::number4_bytes))]
 fn word_bytes(n: u32) -> [u8; 4]
     ensures { result ≡ number4_bytes n }
 {
@@ -79,6 +82,7 @@ pub fn put_word(out: &mut [u8], at: usize, n: u32)
 }
 
 // The eight bytes of a number.
+#[tactic(auto, unfolding(crate::specs::Responses::number8_bytes, crate::specs::Responses::number4_bytes))]
 fn long_bytes(n: u64) -> [u8; 8]
     ensures { result ≡ number8_bytes n }
 {
@@ -97,6 +101,7 @@ pub fn put_long(out: &mut [u8], at: usize, n: u64)
 }
 
 // The four bytes of an answer.
+#[tactic(auto, unfolding(crate::specs::Responses::answer_bytes, crate::specs::Responses::number2_bytes))]
 pub fn put_answer(out: &mut [u8], kind: u8, n: usize, more: u8)
     ensures { out.new ≡ copied out.old 0 (answer_bytes kind n more) }
 {

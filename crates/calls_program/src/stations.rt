@@ -22,7 +22,7 @@ use stream::Progress;
 // The station; how much of the bytes is lent to its calls as their store; the front that receives: 0
 // the station itself, 1 a lent table of its slots; and how many records a listing in its slots has
 // listed.
-#[derive(Drop)]
+#[derive(Clone, Copy)]
 pub struct Desk {
     pub station: Station,
     pub lent: usize,
@@ -31,7 +31,7 @@ pub struct Desk {
 }
 
 // The desk after a request, and the size of the response.
-#[derive(Drop)]
+#[derive(Clone, Copy)]
 pub struct Done {
     pub desk: Desk,
     pub size: usize,
@@ -106,6 +106,7 @@ fn close(desk: Desk, args: &[u8], out: &mut [u8]) -> Done
 }
 
 // How many of the bytes are lent: the first of them.
+#[tactic(auto, unfolding(crate::specs::Desks::lent_size))]
 pub fn lent_size(desk: Desk, bytes: &[u8]) -> usize
     ensures upper_bound { result ≤ length bytes.now }
     ensures value { result ≡ lent_size desk bytes.now }
@@ -156,6 +157,7 @@ fn receive(desk: Desk, bytes: &mut [u8], args: &[u8], out: &mut [u8]) -> Done
 }
 
 // A slot by hand: its kind is 0 to 3.
+#[tactic(auto, unfolding(crate::specs::Requests::slot_named))]
 fn slot_of(kind: u8, h: u16, key: Key) -> Slot
     ensures { result ≡ slot_named kind h key }
 {
@@ -245,6 +247,7 @@ fn refill(bytes: &mut [u8], args: &[u8], out: &mut [u8]) -> usize
 }
 
 // The operations that leave the desk as it is.
+#[tactic(auto, unfolding(crate::specs::Desks::keeping_done))]
 fn ask(desk: Desk, bytes: &mut [u8], operation: u8, args: &[u8], out: &mut [u8]) -> usize
     ensures { as_done (record { desk = desk; size = result }) bytes.new out.new ≡ keeping_done operation args.now desk bytes.old out.old }
 {
@@ -257,6 +260,7 @@ fn ask(desk: Desk, bytes: &mut [u8], operation: u8, args: &[u8], out: &mut [u8])
 }
 
 // Does what a request on a station asks for, and writes the response.
+#[tactic(auto, unfolding(crate::specs::Desks::station_done))]
 pub fn respond(desk: Desk, bytes: &mut [u8], operation: u8, args: &[u8], out: &mut [u8]) -> Done
     ensures { as_done result bytes.new out.new ≡ station_done operation args.now desk bytes.old out.old }
 {

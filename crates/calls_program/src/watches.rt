@@ -15,13 +15,14 @@ use watch::Watch;
 const WITH_TIMES: usize = 12;
 
 // The watch after a request, and the size of the response.
-#[derive(Drop)]
+#[derive(Clone, Copy)]
 pub struct Done {
     pub watch: Watch,
     pub size: usize,
 }
 
 // The response to a call: the answer, which is written already, and the last times.
+#[tactic(auto, unfolding(crate::specs::Responses::out_with_watch))]
 fn changed(watch: Watch, out: &mut [u8]) -> Done
     ensures value { result ≡ record { watch = watch; size = 12 } }
     ensures out_after { out.new ≡ out_with_watch out.old watch }
@@ -54,6 +55,7 @@ fn hear(watch: Watch, args: &[u8], out: &mut [u8]) -> Done
 }
 
 // The buses to reset as one number.
+#[tactic(auto, unfolding(crate::specs::Responses::resets_of))]
 fn resets(a: bool, b: bool) -> usize
     ensures { result ≡ resets_of a b }
 {
@@ -80,6 +82,7 @@ fn check(watch: Watch, args: &[u8], out: &mut [u8]) -> Done
 }
 
 // Does what a request on a watch asks for, and writes the response.
+#[tactic(auto, unfolding(crate::specs::Operations::watch_done))]
 pub fn respond(watch: Watch, operation: u8, args: &[u8], out: &mut [u8]) -> Done
     ensures value { result ≡ record { watch = (watch_done operation args.now watch).watch; size = 12 } }
     ensures out_after { out.new ≡ out_with_watch (copied out.old 0 (watch_done operation args.now watch).answer) (watch_done operation args.now watch).watch }

@@ -1,0 +1,10 @@
+-- The output is filled first, which leaves its length.
+use Rattle.std.proofs.Common.{refl}
+use Rattle.std.proofs.lemmas.List.{length-replicate}
+use Rattle.calls_program.proofs.images.line_over.Goals as goal
+
+pub returns : goal.returns
+returns c =
+    let f = c.fill.ensures.bytes_after refl in
+    let e = c.write_line.ensures in
+    record { result_value = rw (f, length-replicate) at e.result_value; output_after = rw (f, length-replicate) at e.output_after }
