@@ -4,13 +4,13 @@ use Rattle.trace.proofs.Texts.{put_one, put_then, decimal_small, decimal_more, d
 use Rattle.trace.proofs.+put_decimal.Goals as goal
 
 pub bounds-text-at : goal.bounds-text-at
-bounds-text-at t c = omega (arith, c.requires, ap length (decimal_small c.args.n c.if-n-lt10.true))
+bounds-text-at t c = omega (arith, c.requires, ap length (decimal_small c.args.n (omega arith)))
 
 pub returns-then-n-lt10 : goal.returns-then-n-lt10
 returns-then-n-lt10 t c =
     let a = c.args in
-    rw (decimal_small a.n c.if-n-lt10.true)
-    (put_one a.text.now a.at (48 + a.n) (omega (arith, c.requires, ap length (decimal_small a.n c.if-n-lt10.true))))
+    rw (decimal_small a.n (omega arith))
+    (put_one a.text.now a.at (48 + a.n) (omega (arith, c.requires, ap length (decimal_small a.n (omega arith)))))
 
 pub put_decimal-last-requires : goal.put_decimal-last-requires
 put_decimal-last-requires t c =

@@ -12,7 +12,8 @@ loop-i-init c = (omega arith, omega arith, put_none c.args.text.now c.args.at)
 pub put_field-to-requires : goal.put_field-to-requires
 put_field-to-requires c =
     let l = c.loop-i in
-    omega (arith, l.invariant.1, l.invariant.2.size, c.requires, field_byte (get_or c.args.values.now l.i 0) (omega (arith, c.type_inv.values l.i)))
+    let n = field_byte (get_or c.args.values.now l.i 0) (omega (arith, c.type_inv.values l.i)) in
+    omega (arith, l.invariant.1, l.invariant.2.size, n)
 
 pub loop-i-preserved : goal.loop-i-preserved
 loop-i-preserved c =

@@ -10,10 +10,12 @@ put_end-requires c =
     let s = c.put_start-to in
     let f = c.put_columns-to in
     let a = c.put_answer-to in
-    omega (arith, s.ensures.put.size, s.ensures.upper_bound, f.ensures.put.size, f.ensures.upper_bound, a.ensures.size, a.ensures.place, answer_short (meaning c.args.answer), c.requires)
+    let n = answer_short (meaning c.args.answer) in
+    omega (arith, s.ensures.put.size, s.ensures.upper_bound, f.ensures.put.size, f.ensures.upper_bound, a.ensures.size, a.ensures.place, n)
 
 pub returns : goal.returns
 unfolding frame_line
 returns c =
-    put_as (put_then (put_then (put_then c.put_start-to.ensures.put c.put_columns-to.ensures.put) c.put_answer-to.ensures) c.put_end.ensures)
+    let columns = put_then c.put_start-to.ensures.put c.put_columns-to.ensures.put in
+    put_as (put_then (put_then columns c.put_answer-to.ensures) c.put_end.ensures)
     (simp append_assoc)

@@ -6,13 +6,13 @@ use Rattle.trace.proofs.put_records.Goals as goal
 
 pub put_field-to-requires : goal.put_field-to-requires
 put_field-to-requires c =
-    let w = c.put_word-to in omega (arith, w.ensures.place, w.ensures.size, c.requires, field_short c.args.count)
+    let w = c.put_word-to in omega (arith, w.ensures.place, w.ensures.size, c.requires, field_short)
 
 pub put_end-requires : goal.put_end-requires
 put_end-requires c =
     let f = c.put_field-to in
     let w = c.put_word-to in
-    omega (arith, f.ensures.place, f.ensures.size, w.ensures.place, w.ensures.size, c.requires, field_short c.args.count)
+    omega (arith, f.ensures.place, f.ensures.size, w.ensures.place, w.ensures.size, c.requires, field_short)
 
 pub returns : goal.returns
 unfolding count_line

@@ -9,7 +9,8 @@ pub put_end-requires : goal.put_end-requires
 put_end-requires c =
     let s = c.put_start-to in
     let a = c.put_refused-to in
-    omega (arith, s.ensures.put.size, s.ensures.upper_bound, a.ensures.size, a.ensures.place, answer_short (refused (number c.args.name)), c.requires)
+    let n = answer_short (refused (number c.args.name)) in
+    omega (arith, s.ensures.put.size, s.ensures.upper_bound, a.ensures.size, a.ensures.place, n)
 
 pub returns : goal.returns
 unfolding refused_line

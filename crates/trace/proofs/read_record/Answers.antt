@@ -1,6 +1,6 @@
 -- `trace::read_record`: each test in its order (Reading).
-use Rattle.std.proofs.Common.{ap, not}
-use Rattle.trace.proofs.Reading.{at_none, at_one, at_length, at_cut, at-damaged, at_whole}
+use Rattle.std.proofs.Common.{ap, not, arith}
+use Rattle.trace.proofs.Reading.{at_none, at_one, at_length, at_least, at_cut, at-damaged, at_whole}
 use Rattle.trace.proofs.read_record.Goals as goal
 
 pub returns-then-n-eq0 : goal.returns-then-n-eq0
@@ -17,16 +17,17 @@ returns-then-not-follows c =
 pub returns-then-n-size : goal.returns-then-n-size
 returns-then-n-size c =
     let e = c.big_endian-follows in
-    at_cut c.args.input.now e.result e.ensures.value c.if-n-lt2.false (ap not c.if-not-follows.false) c.if-n-size.true
+    at_cut c.args.input.now e.result e.ensures.value c.if-n-lt2.false (ap not c.if-not-follows.false)
+    (omega (arith, at_least e.result (ap not c.if-not-follows.false)))
 
 pub returns-then-not-input-bus : goal.returns-then-not-input-bus
 returns-then-not-input-bus c =
     let e = c.big_endian-follows in
-    at-damaged c.args.input.now e.result e.ensures.value c.if-n-lt2.false (ap not c.if-not-follows.false) c.if-n-size.false
+    at-damaged c.args.input.now e.result e.ensures.value c.if-n-lt2.false (ap not c.if-not-follows.false) (omega arith)
     (ap not c.if-not-input-bus.true)
 
 pub returns : goal.returns
 returns c =
     let e = c.big_endian-follows in
-    at_whole c.args.input.now e.result e.ensures.value c.if-n-lt2.false (ap not c.if-not-follows.false) c.if-n-size.false
+    at_whole c.args.input.now e.result e.ensures.value c.if-n-lt2.false (ap not c.if-not-follows.false) (omega arith)
     (ap not c.if-not-input-bus.false)

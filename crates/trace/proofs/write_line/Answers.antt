@@ -35,11 +35,13 @@ returns-clause-result_value c =
     let a = c.args in
     let p = c.put_line-n in
     let ok : not (line_in_range a.line) ≡ false = ap not (sym c.line_in_range.ensures ∙ c.if-not-line_in_range.false) in
-    (within_room a.line a.output.now ok p.result (size_of p.ensures) c.if-output-n.false _ _ (all_of p.ensures) c.copy_in.ensures.target_after).0
+    let end = size_of p.ensures in
+    (within_room a.line a.output.now ok p.result end c.if-output-n.false _ _ (all_of p.ensures) c.copy_in.ensures.target_after).0
 
 pub returns-clause-output_after : goal.returns-clause-output_after
 returns-clause-output_after c =
     let a = c.args in
     let p = c.put_line-n in
     let ok : not (line_in_range a.line) ≡ false = ap not (sym c.line_in_range.ensures ∙ c.if-not-line_in_range.false) in
-    (within_room a.line a.output.now ok p.result (size_of p.ensures) c.if-output-n.false _ _ (all_of p.ensures) c.copy_in.ensures.target_after).1
+    let end = size_of p.ensures in
+    (within_room a.line a.output.now ok p.result end c.if-output-n.false _ _ (all_of p.ensures) c.copy_in.ensures.target_after).1
