@@ -14,7 +14,7 @@ use Rattle.format.specs.declared.Fields.TheVariants as fields
 use Rattle.format.specs.declared.Flag.{Flag}
 use Rattle.format.specs.declared.Flag.TheVariants.{Middle, Start, End, Single}
 use Rattle.format.specs.declared.Refusal.{Refusal}
-use Rattle.format.specs.declared.Refusal.TheVariants.{Orphan, Step, Long, Field, Size, Idle, State}
+use Rattle.format.specs.declared.Refusal.TheVariants.{Orphan, Step, Long, Field, Size, State}
 use Rattle.format.specs.Formats.{packet_limit, piece_size, format_of, in_range}
 use Rattle.format.specs.Refusals.{Result, value, refused, number, Check, check, guarded, checked_then}
 use Rattle.format.specs.Tests.{all_true, all_after}

@@ -2,7 +2,7 @@
 -- number. Any other answer is a number below 2^16, above it the answer's kind, if it has one, and 2^24 for "broke". Kinds of different
 -- calls differ, from each other and from the kinds of exchanges that are handed in (1 to 3). A check's answer is 2^25 for bus A and 2^26
 -- for bus B: bits that no refusal has.
-use Rattle.std.specs.Prelude.{ℕ, ◌+◌, ◌*◌, ◌%◌, ◌^◌, Bool, cond}
+use Rattle.std.specs.Prelude.{ℕ, ◌+◌, ◌*◌, ◌%◌, Bool, cond}
 use Rattle.format.specs.Refusals.{Result, value, refused}
 use Rattle.stream.specs.Answers.{Reply, packet, kept, filtered}
 use Rattle.master.specs.Exchanges.{Told, send, done, gave_up}
