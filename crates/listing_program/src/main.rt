@@ -1,15 +1,18 @@
 // Lists a trace of extended frames that arrives on standard input: the header, a line a record, and
 // the count.
+#![tactic(auto)]
+
 ghost use Rattle.std.specs.Prelude.{◌≡◌, ◌≤◌, false, length, take};
 ghost use Rattle.format.specs.Outputs.{output_after};
 ghost use Rattle.lister.specs.Listing as listings;
 
 use format::Outcome;
 use lister::{Listing, Why};
+use std::io::{Input, Print};
 use trace::Line;
 
 // Between two reads: the listing, and how many bytes of the input are held that are no whole record.
-#[derive(Drop)]
+#[derive(Clone, Copy)]
 struct Session {
     listing: Listing,
     held: usize,
@@ -17,9 +20,9 @@ struct Session {
 }
 
 // Writes a line or lines that stand at the head of the output, and answers whether they were.
-fn write(answer: Outcome, output: &[u8]) -> bool {
+fn write(rt: &(impl Print + Eprint), answer: Outcome, output: &[u8]) -> bool {
     match answer {
-        Outcome::Value(n) => pipes::write_out(output, n),
+        Outcome::Value(n) => pipes::write_out(rt, output, n),
         Outcome::Refused(_) => false,
     }
 }
@@ -35,24 +38,30 @@ fn ended(listing: Listing) -> Session
 }
 
 // The last lines, where no more comes than what is left of the input.
-fn end(listing: Listing, rest: &[u8], output: &mut [u8]) -> Session
+fn end(rt: &(impl Print + Eprint), listing: Listing, rest: &[u8], output: &mut [u8]) -> Session
     ensures value { result ≡ record { listing = listing; held = 0; going = false } }
     ensures output_after { output.new ≡ output_after (listings.ending listing rest.now (length output.old)) output.old }
 {
     let answer = listing.end(rest, output);
-    write(answer, output);
+    write(rt, answer, output);
     ended(listing)
 }
 
 // Reads on. Where no more comes, the listing ends with what is held.
-fn more(listing: Listing, input: &mut [u8], held: usize, output: &mut [u8]) -> Session
+fn more(
+    rt: &(impl Input + Print + Eprint),
+    listing: Listing,
+    input: &mut [u8],
+    held: usize,
+    output: &mut [u8],
+) -> Session
     requires { held ≤ length input.old }
     ensures held_in_bounds { result.held ≤ length input.old }
     ensures listing_value { result.listing ≡ listing }
 {
-    let all = pipes::read_on(input, held);
+    let all = pipes::read_on(rt, input, held);
     if all == held {
-        return end(listing, &input[0..held], output);
+        return end(rt, listing, &input[0..held], output);
     }
     Session {
         listing: listing,
@@ -63,7 +72,13 @@ fn more(listing: Listing, input: &mut [u8], held: usize, output: &mut [u8]) -> S
 
 // Lists what is held, writes the lines, and reads on where all whole records are listed. So no line
 // waits for more input.
-fn turn(session: Session, store: &mut [u8], input: &mut [u8], output: &mut [u8]) -> Session
+fn turn(
+    rt: &(impl Input + Print + Eprint),
+    session: Session,
+    store: &mut [u8],
+    input: &mut [u8],
+    output: &mut [u8],
+) -> Session
     requires { session.held ≤ length input.old }
     ensures held_in_bounds { result.held ≤ length input.old }
     ensures listing_value { result.listing ≡ (listings.listing session.listing store.old (take session.held input.old) output.old).listing }
@@ -75,18 +90,18 @@ fn turn(session: Session, store: &mut [u8], input: &mut [u8], output: &mut [u8])
     let listing = listed.listing;
     let why = listed.why;
     // No one is there to read it, or it cannot be written.
-    if !pipes::write_out(output, listed.written) {
+    if !pipes::write_out(rt, output, listed.written) {
         return ended(listing);
     }
     let left = pipes::keep(input, listed.used, held);
     match why {
-        Why::Input => more(listing, input, left, output),
+        Why::Input => more(rt, listing, input, left, output),
         Why::Room => Session {
             listing: listing,
             held: left,
             going: true,
         },
-        Why::Damaged => end(listing, &input[0..left], output),
+        Why::Damaged => end(rt, listing, &input[0..left], output),
         // Never: the listing stays sound (claim ListingStaysSound of lister), and the store has its size.
         Why::Refused(_) => ended(listing),
     }
@@ -94,9 +109,9 @@ fn turn(session: Session, store: &mut [u8], input: &mut [u8], output: &mut [u8])
 
 // A proved loop has to end, and nothing says that the input does: the turns are counted down from
 // a number that no run uses up.
-fn list(store: &mut [u8], input: &mut [u8], output: &mut [u8]) {
+fn list(rt: &(impl Input + Print + Eprint), store: &mut [u8], input: &mut [u8], output: &mut [u8]) {
     let answer = trace::write_line(Line::Header, output);
-    let is_headed = write(answer, output);
+    let is_headed = write(rt, answer, output);
     let listing = Listing::new();
     let mut session = Session {
         listing: listing,
@@ -105,15 +120,15 @@ fn list(store: &mut [u8], input: &mut [u8], output: &mut [u8]) {
     };
     let mut turns = u64::MAX;
     while turns > 0 && session.going {
-        session = turn(session, store, input, output);
+        session = turn(rt, session, store, input, output);
         turns -= 1;
     }
 }
 
 // A record of 16 bytes has a line of 40 or so, so what is read at once is mostly written at once.
-fn main() {
+fn main(rt: HostRuntime) {
     let mut store = [0u8; 32768];
     let mut input = [0u8; 65536];
     let mut output = [0u8; 262144];
-    list(&mut store, &mut input, &mut output);
+    list(&rt, &mut store, &mut input, &mut output);
 }

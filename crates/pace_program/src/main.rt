@@ -3,13 +3,15 @@
 //
 // Standard input has four bytes for how many times, high byte first, a byte for how many streams
 // are open, a byte for the format (0 extended, 1 standard), and the image.
+#![tactic(auto)]
+
 ghost use Rattle.std.specs.Prelude.{◌≡◌, true, ◌+◌, ◌*◌, ◌≤◌, length};
 ghost use Rattle.format.specs.Formats.{format_of, in_range};
 
 use format::{Fields, Format};
-use libc::{STDIN_FILENO, STDOUT_FILENO};
 use slot::Key;
 use station::Station;
+use std::io::{Input, Print, Read};
 use stream::Answer;
 
 fn format_of(number: u8) -> Format {
@@ -129,15 +131,30 @@ fn answer_to(request: &[u8], store: &mut [u8]) -> u64
     sum + total(store)
 }
 
+// Reads until the request is full, the input ends or a read fails, and answers how many bytes of it
+// were read.
+fn read_full(rt: &impl Input, request: &mut [u8]) -> usize
+    ensures { result ≤ length request.new }
+{
+    let mut reader = rt.reader();
+    let mut done = 0;
+    while done < request.len() {
+        match reader.read(&mut request[done..]) {
+            Ok(0) | Err(_) => break,
+            Ok(n) => done += n,
+        }
+    }
+    done
+}
+
 // An image has 13 bytes at most. Of a longer one the first 16 are read, and refused as all would be.
-fn main() {
+fn main(rt: HostRuntime) {
     let mut request = [0u8; 22];
     let mut store = [0u8; 32768];
-    let n = io::read_full(STDIN_FILENO, &mut request);
+    let n = read_full(&rt, &mut request);
     if n < 6 {
         return;
     }
     let sum = answer_to(&request[..n], &mut store);
-    io::print_decimal(STDOUT_FILENO, sum);
-    io::write_all(STDOUT_FILENO, b"\n");
+    let _ = println!(rt; "{sum}");
 }
