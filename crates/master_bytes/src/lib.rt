@@ -137,6 +137,7 @@ fn load(state: &[u8]) -> Master
 
 // Answers as a call does, and writes the master that it hands back; of a refusal, whose master is in the bytes
 // already, nothing is stored.
+#[tactic(auto, unfolding(crate::specs::Parts::RefusedIsThere))]
 fn hand_back(state: &mut [u8], moved: Moved) -> Answer
     requires state_len { length state.old ≡ 68 }
     requires refused_is_there { RefusedIsThere state.old moved }
