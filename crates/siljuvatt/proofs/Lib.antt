@@ -1,4 +1,6 @@
 pub mod Reading
 mod Words
+mod OneWord
+mod Byte
 mod Small
 mod Bounds

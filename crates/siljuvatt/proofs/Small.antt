@@ -61,20 +61,15 @@ use Rattle.watch_bytes.specs.States as watches
 use Rattle.station_bytes.specs.States.{format_in}
 use Rattle.siljuvatt.specs.Calls.{count_in, new_in}
 use Rattle.siljuvatt.specs.Claims.{Within, UpTo, LengthUpTo, BusUpTo, Small}
+use Rattle.siljuvatt.proofs.Byte.{IsByte, a_byte, byte_within}
 
 -- ---- a guarded result
-
-abbrev a_byte : ℕ → Bool
-a_byte n = all_true (leb 1 n ∷ leb n 255 ∷ [])
 
 all_bytes : all_true (map a_byte numbers) ≡ true
 unfolding all_true all_after
 all_bytes = refl
 
-byte_within : (n : ℕ) → a_byte n ≡ true → (1 ≤ n) × (n ≤ 255)
-byte_within n e = let tests = each (leb 1 n ∷ leb n 255 ∷ []) e in (leb-true _ _ tests.0, leb-true _ _ tests.1.0)
-
-a_refusal : (name : Refusal) → (1 ≤ number name) × (number name ≤ 255)
+a_refusal : (name : Refusal) → IsByte (number name)
 a_refusal name = byte_within (number name) (each_number a_byte all_bytes name)
 
 -- its value where every check holds, or a refusal

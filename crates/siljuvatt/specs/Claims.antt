@@ -1,4 +1,4 @@
--- What is promised of the numbers that the calls answer. Proofs: proofs/Words.antt (`OneWord`), proofs/Small.antt (`Small`),
+-- What is promised of the numbers that the calls answer. Proofs: proofs/OneWord.antt (`OneWord`), proofs/Small.antt (`Small`),
 -- proofs/Reading.antt (`ReadsThere`).
 use Rattle.std.specs.Prelude.{ℕ, ◌≤◌, ◌≡◌, List, length, take, drop}
 use Rattle.format.specs.declared.Fields.{Fields}

@@ -1,5 +1,5 @@
 -- `siljuvatt::promised`: the proof of each claim.
-use Rattle.siljuvatt.proofs.Words.{one_word}
+use Rattle.siljuvatt.proofs.OneWord.{one_word}
 use Rattle.siljuvatt.proofs.Small.{small}
 use Rattle.siljuvatt.proofs.Bounds.{library_bounds}
 use Rattle.siljuvatt.proofs.Reading.{reads_there}
