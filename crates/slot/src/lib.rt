@@ -40,6 +40,14 @@ pub struct Slot {
 pub fn key_in_range(format: Format, key: Key) -> bool
     ensures { result ≡ key_in_range format key }
 {
+    in_range_of(format, &key)
+}
+
+// The same of a lent key. Keys and slots are lent from here to scan: handed on by value, each would be
+// copied in pieces, and the compiler would put the pieces together again.
+fn in_range_of(format: Format, key: &Key) -> bool
+    ensures { result ≡ key_in_range format key.now }
+{
     let fields = key.fields;
     let bus = key.bus <= 1;
     match format {
@@ -116,15 +124,14 @@ fn fits(format: Format, progress: Progress) -> bool
     }
 }
 
-fn slot_sound(format: Format, occupancy: Occupancy) -> bool
-    ensures { result ≡ slot_sound format occupancy }
+fn slot_sound(format: Format, occupancy: &Occupancy) -> bool
+    ensures { result ≡ slot_sound format occupancy.now }
 {
     match occupancy {
         Occupancy::Closed => true,
         Occupancy::Open(stream) => {
-            let key = stream.key;
             let progress = stream.progress;
-            if key_in_range(format, key) {
+            if in_range_of(format, &stream.key) {
                 fits(format, progress)
             } else {
                 false
@@ -141,13 +148,12 @@ fn widened(x: u8) -> u32
 
 // One number for each key in range, made of whole bytes as the fields lie in memory; the function
 // and the bus lie above the priority.
-fn key_code(key: Key) -> u32
-    requires { key_code key < 4294967296 }
-    ensures { result ≡ key_code key }
+fn key_code(key: &Key) -> u32
+    requires { key_code key.now < 4294967296 }
+    ensures { result ≡ key_code key.now }
 {
-    let fields = key.fields;
     let bus = widened(key.bus);
-    match fields {
+    match key.fields {
         Fields::Extended {
             priority: p,
             source: s,
@@ -171,16 +177,13 @@ fn key_code(key: Key) -> u32
 }
 
 // A closed slot has a number of its own, above every key's.
-fn slot_code(occupancy: Occupancy, i: u32) -> u32
-    requires { slot_code occupancy i < 4294967296 }
-    ensures { result ≡ slot_code occupancy i }
+fn slot_code(occupancy: &Occupancy, i: u32) -> u32
+    requires { slot_code occupancy.now i < 4294967296 }
+    ensures { result ≡ slot_code occupancy.now i }
 {
     match occupancy {
         Occupancy::Closed => 1073741824 + i,
-        Occupancy::Open(stream) => {
-            let key = stream.key;
-            key_code(key)
-        }
+        Occupancy::Open(stream) => { key_code(&stream.key) }
     }
 }
 
@@ -194,8 +197,7 @@ fn scan(format: Format, slots: [Slot; 16], codes: &mut [u32; 16]) -> bool
     let mut n: u32 = 0;
     let mut i: usize = 0;
     while i < 16 {
-        let slot = slots[i];
-        let occupancy = slot.occupancy;
+        let occupancy = &slots[i].occupancy;
         if !slot_sound(format, occupancy) {
             return false;
         }
@@ -255,7 +257,7 @@ pub fn find_key(format: Format, codes: &[u32], key: Key) -> usize
     if !key_in_range(format, key) {
         return codes.len();
     }
-    find_code(codes, key_code(key))
+    find_code(codes, key_code(&key))
 }
 
 fn is_closed(occupancy: Occupancy) -> bool
@@ -407,7 +409,7 @@ pub fn key_number(key: Key) -> u32
     if !key_in_range(fields.format(), key) {
         return 0;
     }
-    key_code(key)
+    key_code(&key)
 }
 
 // The claims of this crate. It does nothing: its contract ties each claim to its proof.

@@ -7,10 +7,10 @@ pub returns-in-Closed : goal.returns-in-Closed
 unfolding slot_sound
 returns-in-Closed c = search rules
 
-pub returns-then-key_in_range : goal.returns-then-key_in_range
+pub returns-then-in_range_of : goal.returns-then-in_range_of
 unfolding slot_sound all_true all_after
-returns-then-key_in_range c = search rules
+returns-then-in_range_of c = search rules
 
-pub returns-else-key_in_range : goal.returns-else-key_in_range
+pub returns-else-in_range_of : goal.returns-else-in_range_of
 unfolding slot_sound all_true all_after
-returns-else-key_in_range c = search rules
+returns-else-in_range_of c = search rules

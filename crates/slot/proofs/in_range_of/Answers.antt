@@ -1,7 +1,7 @@
 use Rattle.std.proofs.Common.{rules}
 use Rattle.format.specs.Tests.{all_true, all_after}
 use Rattle.slot.specs.Sound.{key_in_range}
-use Rattle.slot.proofs.key_in_range.Goals as goal
+use Rattle.slot.proofs.in_range_of.Goals as goal
 
 pub returns-in-Extended-fields : goal.returns-in-Extended-fields
 unfolding key_in_range all_true all_after
