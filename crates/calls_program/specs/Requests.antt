@@ -11,15 +11,18 @@ use Rattle.format.specs.Refusals.{number}
 use Rattle.frame.specs.Layout.{flag_of}
 use Rattle.master.specs.declared.Kind.{Kind}
 use Rattle.master.specs.declared.Kind.TheVariants.{Poll, DataBlock, Command}
-use Rattle.master.specs.declared.Activity.{Activity}
-use Rattle.master.specs.declared.Activity.TheVariants as activity
+use Rattle.std.specs.Prelude.{Option}
+use Rattle.master.specs.declared.Exchange.{Exchange}
+use Rattle.std.specs.Prelude.{None, Some}
 use Rattle.master.specs.declared.Master.{Master}
 use Rattle.slot.specs.declared.Key.{Key}
 use Rattle.slot.specs.declared.Slot.{Slot}
 use Rattle.slot.specs.Slots.{closed_slot, open_slot}
 use Rattle.stream.specs.declared.Progress.TheVariants as progress
+use Rattle.format.specs.Refusals.{Returned}
 use Rattle.stream.specs.declared.Answer.{Answer}
 use Rattle.stream.specs.declared.Answer.TheVariants as answer
+use Rattle.std.specs.Prelude.{Ok, Err}
 use Rattle.trace.specs.declared.Line.{Line}
 use Rattle.trace.specs.declared.Line.TheVariants as line
 
@@ -62,9 +65,9 @@ unfoldable pub kind_named : ℕ → Kind
 kind_named code = cond (code == 1) Poll (cond (code == 2) DataBlock Command)
 
 -- EXCHANGE: "the master becomes one with A chosen for every node but the first, which has that bus, and that exchange, or none with kind 0"
-unfoldable pub activity_named : (kind node sends : ℕ) → Activity
+unfoldable pub activity_named : (kind node sends : ℕ) → Option Exchange
 activity_named kind node sends =
-    cond (kind == 0) activity.Idle (activity.UnderWay (record { kind = kind_named kind; node = node; sends = sends }))
+    cond (kind == 0) None (Some (record { kind = kind_named kind; node = node; sends = sends }))
 
 unfoldable pub master_named : List ℕ → Master
 master_named args =
@@ -102,11 +105,11 @@ EachNamed = (name : Refusal) → refusal_named (number name) ≡ name
 -- count (8 bytes), bus, format, 5 fields, flag, number, count, and an answer in 10 bytes: its kind (1 to 4 as below), its number (8 bytes;
 -- of a refusal its own, as of NUMBER), and 1 if it is "broke", else 0. [..] another kind of answer as 4 [..] of a refusal's
 -- number the lowest byte counts". It comes after the room, at place 1.
-unfoldable pub answer_of_line : List ℕ → Answer
+unfoldable pub answer_of_line : List ℕ → Returned Answer
 answer_of_line args =
     cond (byte_at args 20 == 1) (answer.Packet (number8_at args 21) (byte_at args 29 == 1))
     (cond (byte_at args 20 == 2) (answer.Kept (byte_at args 29 == 1))
-    (cond (byte_at args 20 == 3) answer.Filtered (answer.Refused (refusal_named (byte_at args 28)))))
+    (cond (byte_at args 20 == 3) (Ok answer.Filtered) (Err (refusal_named (byte_at args 28)))))
 
 unfoldable pub frame_of_line : List ℕ → Line
 frame_of_line args =

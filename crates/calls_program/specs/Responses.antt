@@ -12,13 +12,15 @@ use Rattle.trace.specs.Records.{Found, whole, damaged, cut, none}
 use Rattle.lister.specs.Listing.{Reason, input, room, damage}
 use Rattle.master.specs.declared.Kind.{Kind}
 use Rattle.master.specs.declared.Kind.TheVariants.{Poll, DataBlock, Command}
-use Rattle.master.specs.declared.Activity.{Activity}
-use Rattle.master.specs.declared.Activity.TheVariants as activity
+use Rattle.std.specs.Prelude.{Option}
+use Rattle.master.specs.declared.Exchange.{Exchange}
+use Rattle.std.specs.Prelude.{None, Some}
 use Rattle.master.specs.declared.Master.{Master}
 use Rattle.master.specs.Exchanges.{Told, send, done, gave_up}
 use Rattle.watch.specs.declared.Watch.{Watch}
-use Rattle.slot.specs.declared.Occupancy.{Occupancy}
-use Rattle.slot.specs.declared.Occupancy.TheVariants.{Closed, Open}
+use Rattle.std.specs.Prelude.{Option}
+use Rattle.slot.specs.declared.Stream.{Stream}
+use Rattle.std.specs.Prelude.{None, Some}
 use Rattle.slot.specs.declared.Slot.{Slot}
 
 -- "A number that a call answers or hands back is 65,535 in two bytes if it is larger, which none is."
@@ -69,9 +71,9 @@ progress_bytes Idle bus = 1 ∷ 0 ∷ 0 ∷ bus ∷ []
 progress_bytes (Collecting h) bus = 2 ∷ h / 256 ∷ h % 256 ∷ bus ∷ []
 progress_bytes (Done h) bus = 3 ∷ h / 256 ∷ h % 256 ∷ bus ∷ []
 
-abbrev pub occupancy_bytes : Occupancy → List ℕ
-occupancy_bytes Closed = replicate 10 0
-occupancy_bytes (Open stream) = progress_bytes stream.progress stream.key.bus ++ field_bytes stream.key.fields
+abbrev pub occupancy_bytes : Option Stream → List ℕ
+occupancy_bytes None = replicate 10 0
+occupancy_bytes (Some stream) = progress_bytes stream.progress stream.key.bus ++ field_bytes stream.key.fields
 
 -- an output with slots written from a place on, one after the other
 unfoldable pub out_with_slots : List ℕ → (at : ℕ) → List Slot → List ℕ
@@ -106,9 +108,9 @@ kind_byte Poll = 1
 kind_byte DataBlock = 2
 kind_byte Command = 3
 
-abbrev pub exchange_bytes : Activity → List ℕ
-exchange_bytes activity.Idle = 0 ∷ 0 ∷ 0 ∷ []
-exchange_bytes (activity.UnderWay exchange) = kind_byte exchange.kind ∷ exchange.node ∷ exchange.sends ∷ []
+abbrev pub exchange_bytes : Option Exchange → List ℕ
+exchange_bytes None = 0 ∷ 0 ∷ 0 ∷ []
+exchange_bytes (Some exchange) = kind_byte exchange.kind ∷ exchange.node ∷ exchange.sends ∷ []
 
 -- an output with a master, a watch written after the answer
 unfoldable pub out_with_master : List ℕ → Master → List ℕ

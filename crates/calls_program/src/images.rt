@@ -20,8 +20,8 @@ use crate::response::{
     ANSWER, fill, flag_byte, put_answer, put_fields, put_outcome, put_refused, put_value,
 };
 use filter::{Filter, Pair};
-use format::Outcome;
-use frame::{Head, Verdict};
+use format::Refusal;
+use frame::Head;
 use trace::{Entry, Line};
 
 fn count(args: &[u8], out: &mut [u8]) -> usize
@@ -35,7 +35,7 @@ fn count(args: &[u8], out: &mut [u8]) -> usize
 
 // The call of PIECE, on an output that is all EE.
 #[tactic(auto, unfolding(crate::specs::Images::piece_in))]
-fn piece_over(args: &[u8], output: &mut [u8]) -> Outcome
+fn piece_over(args: &[u8], output: &mut [u8]) -> Result<usize, Refusal>
     ensures result_value { meaning result ≡ answer (piece_in args.now (length output.old)) }
     ensures output_after { output.new ≡ output_after (piece_in args.now (length output.old)) (replicate (length output.old) 0xEE) }
 {
@@ -80,8 +80,8 @@ fn judge(args: &[u8], out: &mut [u8]) -> usize
     ensures out_after { out.new ≡ (judge_done args.now out.old).output }
 {
     match frame::judge(format_of(byte(args, 0)), rest(args, 1)) {
-        Verdict::Sound(head) => put_head(out, head),
-        Verdict::Refused(name) => {
+        Ok(head) => put_head(out, head),
+        Err(name) => {
             put_refused(out, name);
             ANSWER
         }
@@ -191,7 +191,7 @@ fn record(args: &[u8], out: &mut [u8]) -> usize
 }
 
 // The call of LINE, on an output that is all '-'.
-fn line_over(line: Line, output: &mut [u8]) -> Outcome
+fn line_over(line: Line, output: &mut [u8]) -> Result<usize, Refusal>
     ensures result_value { meaning result ≡ answer (writing line (length output.old)) }
     ensures output_after { output.new ≡ output_after (writing line (length output.old)) (replicate (length output.old) 45) }
 {

@@ -16,7 +16,7 @@ use crate::response::{
     ANSWER, fill, put_answer, put_long, put_number, put_outcome, put_refused, put_value,
 };
 use crate::stations::{Desk, Done, kept, lent_size};
-use format::Outcome;
+use format::Refusal;
 use lister::{Listed, Listing, Why};
 
 // The size of an answer with the count.
@@ -68,14 +68,14 @@ fn count(desk: Desk, args: &[u8], out: &mut [u8]) -> Done
     set(desk, listing, out)
 }
 
-fn put_why(out: &mut [u8], why: Why)
+fn put_why(out: &mut [u8], why: Result<Why, Refusal>)
     ensures { out.new ≡ copied out.old 0 (reason_bytes (listings.meaning why)) }
 {
     match why {
-        Why::Input => put_answer(out, 13, 0, 0),
-        Why::Room => put_answer(out, 14, 0, 0),
-        Why::Damaged => put_answer(out, 10, 0, 0),
-        Why::Refused(name) => put_refused(out, name),
+        Ok(Why::Input) => put_answer(out, 13, 0, 0),
+        Ok(Why::Room) => put_answer(out, 14, 0, 0),
+        Ok(Why::Damaged) => put_answer(out, 10, 0, 0),
+        Err(name) => put_refused(out, name),
     }
 }
 
@@ -121,7 +121,7 @@ fn list(desk: Desk, bytes: &mut [u8], args: &[u8], out: &mut [u8]) -> Done
 }
 
 // The call of END, in the same way.
-fn end_over(desk: Desk, input: &[u8], output: &mut [u8]) -> Outcome
+fn end_over(desk: Desk, input: &[u8], output: &mut [u8]) -> Result<usize, Refusal>
     ensures result_value { meaning result ≡ answer (ending (record { slots = desk.station.slots; count = desk.count }) input.now (length output.old)) }
     ensures output_after { output.new ≡ output_after (ending (record { slots = desk.station.slots; count = desk.count }) input.now (length output.old)) (replicate (length output.old) 45) }
 {

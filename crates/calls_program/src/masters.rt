@@ -9,7 +9,8 @@ ghost use Rattle.calls_program.specs.Operations.{master_done};
 use crate::operations::{EXCHANGE, MASTER, REPLY, START};
 use crate::request::{byte, kind_of};
 use crate::response::{put_answer, put_refused, put_value};
-use master::{Activity, Answer, Exchange, Kind, Master, Moved};
+use format::Refusal;
+use master::{Answer, Exchange, Kind, Master, Moved};
 
 // Where the chosen buses stand in a response, after the answer and the exchange.
 const CHOSEN: usize = 7;
@@ -41,12 +42,12 @@ fn put_exchange(out: &mut [u8], kind: u8, node: u8, sends: u8)
     copying::copy_in(out, 4, &bytes);
 }
 
-fn put_activity(out: &mut [u8], activity: Activity)
+fn put_activity(out: &mut [u8], activity: Option<Exchange>)
     ensures { out.new ≡ copied out.old 4 (exchange_bytes activity) }
 {
     match activity {
-        Activity::Idle => put_exchange(out, 0, 0, 0),
-        Activity::UnderWay(exchange) => {
+        None => put_exchange(out, 0, 0, 0),
+        Some(exchange) => {
             let kind = exchange.kind;
             put_exchange(out, kind_code(kind), exchange.node, exchange.sends);
         }
@@ -69,14 +70,14 @@ fn changed(master: Master, out: &mut [u8]) -> Done
     }
 }
 
-fn put_moved(out: &mut [u8], answer: Answer)
+fn put_moved(out: &mut [u8], answer: Result<Answer, Refusal>)
     ensures { out.new ≡ copied out.old 0 (told_bytes (exchanges.meaning answer)) }
 {
     match answer {
-        Answer::Send(bus) => put_answer(out, 6, bus as usize, 0),
-        Answer::Done => put_answer(out, 7, 0, 0),
-        Answer::GaveUp => put_answer(out, 8, 0, 0),
-        Answer::Refused(name) => put_refused(out, name),
+        Ok(Answer::Send(bus)) => put_answer(out, 6, bus as usize, 0),
+        Ok(Answer::Done) => put_answer(out, 7, 0, 0),
+        Ok(Answer::GaveUp) => put_answer(out, 8, 0, 0),
+        Err(name) => put_refused(out, name),
     }
 }
 
@@ -101,18 +102,18 @@ fn set(master: Master, out: &mut [u8]) -> Done
 }
 
 #[tactic(auto, unfolding(crate::specs::Requests::activity_named))]
-fn activity_of(kind: u8, node: u8, sends: u8) -> Activity
+fn activity_of(kind: u8, node: u8, sends: u8) -> Option<Exchange>
     ensures { result ≡ activity_named kind node sends }
 {
     if kind == 0 {
-        return Activity::Idle;
+        return None;
     }
     let exchange = Exchange {
         kind: kind_of(kind),
         node: node,
         sends: sends,
     };
-    Activity::UnderWay(exchange)
+    Some(exchange)
 }
 
 // A master by hand: A chosen for every node but one, and an exchange or none.

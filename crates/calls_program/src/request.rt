@@ -186,18 +186,18 @@ pub fn each_named()
 
 // The answer in a line: ten bytes from place 20 on, of which the number's lowest names a refusal.
 #[tactic(auto, unfolding(crate::specs::Requests::answer_of_line))]
-fn answer_in(args: &[u8]) -> Answer
+fn answer_in(args: &[u8]) -> Result<Answer, Refusal>
     ensures { result ≡ answer_of_line args.now }
 {
     let broke = byte(args, 29) == 1;
     match byte(args, 20) {
-        1 => Answer::Packet {
+        1 => Ok(Answer::Packet {
             length: long(args, 21) as usize,
             broke: broke,
-        },
-        2 => Answer::Kept { broke: broke },
-        3 => Answer::Filtered,
-        _ => Answer::Refused(refusal_of(byte(args, 28))),
+        }),
+        2 => Ok(Answer::Kept { broke: broke }),
+        3 => Ok(Answer::Filtered),
+        _ => Err(refusal_of(byte(args, 28))),
     }
 }
 

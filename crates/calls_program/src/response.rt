@@ -8,8 +8,8 @@ ghost use Rattle.calls_program.specs.Responses.{number2_bytes, number4_bytes, nu
 ghost use Rattle.calls_program.specs.Responses as responses;
 
 use copying::copy_in;
-use format::{Fields, Outcome, Refusal};
-use slot::{Occupancy, Slot, Stream};
+use format::{Fields, Refusal};
+use slot::{Slot, Stream};
 use station::Station;
 use stream::{Answer, Progress};
 
@@ -117,12 +117,12 @@ pub fn put_refused(out: &mut [u8], name: Refusal)
 }
 
 // The answer of a call that gives a number or refuses.
-pub fn put_outcome(out: &mut [u8], outcome: Outcome)
+pub fn put_outcome(out: &mut [u8], outcome: Result<usize, Refusal>)
     ensures { out.new ≡ copied out.old 0 (outcome_bytes (refusals.meaning outcome)) }
 {
     match outcome {
-        Outcome::Value(n) => put_value(out, n),
-        Outcome::Refused(name) => put_refused(out, name),
+        Ok(n) => put_value(out, n),
+        Err(name) => put_refused(out, name),
     }
 }
 
@@ -142,14 +142,14 @@ pub fn flag_byte(flag: bool) -> u8
 }
 
 // The answer of receiving.
-pub fn put_received(out: &mut [u8], answer: Answer)
+pub fn put_received(out: &mut [u8], answer: Result<Answer, Refusal>)
     ensures { out.new ≡ copied out.old 0 (reply_bytes (answers.meaning answer)) }
 {
     match answer {
-        Answer::Packet { length, broke } => put_answer(out, 1, length, flag_byte(broke)),
-        Answer::Kept { broke } => put_answer(out, 2, 0, flag_byte(broke)),
-        Answer::Filtered => put_answer(out, 3, 0, 0),
-        Answer::Refused(name) => put_refused(out, name),
+        Ok(Answer::Packet { length, broke }) => put_answer(out, 1, length, flag_byte(broke)),
+        Ok(Answer::Kept { broke }) => put_answer(out, 2, 0, flag_byte(broke)),
+        Ok(Answer::Filtered) => put_answer(out, 3, 0, 0),
+        Err(name) => put_refused(out, name),
     }
 }
 
@@ -192,7 +192,7 @@ fn progress_bytes(progress: Progress, bus: u8) -> [u8; 4]
 }
 
 fn stream_bytes(stream: Stream) -> [u8; 10]
-    ensures { result ≡ responses.occupancy_bytes (Occupancy.Open stream) }
+    ensures { result ≡ responses.occupancy_bytes (Some stream) }
 {
     let key = stream.key;
     let progress = stream.progress;
@@ -207,11 +207,11 @@ fn put_slot(out: &mut [u8], at: usize, slot: Slot)
 {
     let occupancy = slot.occupancy;
     match occupancy {
-        Occupancy::Closed => {
+        None => {
             let bytes = [0u8; 10];
             copy_in(out, at, &bytes);
         }
-        Occupancy::Open(stream) => {
+        Some(stream) => {
             let bytes = stream_bytes(stream);
             copy_in(out, at, &bytes);
         }

@@ -15,7 +15,7 @@ use crate::request::{byte, format_of, key, number, part, rest};
 use crate::response::{ANSWER, WITH_SLOTS, fill, put_outcome, put_received, put_slots, put_value};
 use copying::copy_in;
 use format::Format;
-use slot::{Key, Occupancy, Slot, Stream};
+use slot::{Key, Slot, Stream};
 use station::{Changed, Received, Station, Store};
 use stream::Progress;
 
@@ -163,7 +163,7 @@ fn slot_of(kind: u8, h: u16, key: Key) -> Slot
 {
     if kind == 0 {
         return Slot {
-            occupancy: Occupancy::Closed,
+            occupancy: None,
         };
     }
     let progress = match kind {
@@ -176,7 +176,7 @@ fn slot_of(kind: u8, h: u16, key: Key) -> Slot
         progress: progress,
     };
     Slot {
-        occupancy: Occupancy::Open(stream),
+        occupancy: Some(stream),
     }
 }
 

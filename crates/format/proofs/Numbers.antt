@@ -11,7 +11,7 @@ use borrow.Author.Tests.{eqb-false, not-true}
 use denote.Struct.Field.{Field}
 use denote.Enum.Declared.{Choice}
 use Rattle.format.specs.declared.Refusal.{Refusal}
-use Rattle.format.specs.declared.Outcome.TheVariants.{Value, Refused}
+use Rattle.std.specs.Prelude.{Err, Ok}
 use Rattle.format.specs.Refusals.{number}
 use Rattle.format.specs.Tests.{all_after, all_true}
 use Rattle.format.specs.Claims.{OneNumber, OneMeaning}
@@ -85,7 +85,7 @@ one_number a b e =
 
 pub one_meaning : OneMeaning
 unfolding OneMeaning OneNumber
-one_meaning (Value m) (Value n) e = let i : m ≡ n = cc in ap Value i
-one_meaning (Value m) (Refused b) e = let z : ◌≡◌ {A = ℕ} 0 1 = cc in absurd (omega arith)
-one_meaning (Refused a) (Value n) e = let z : ◌≡◌ {A = ℕ} 0 1 = cc in absurd (omega arith)
-one_meaning (Refused a) (Refused b) e = let i : number a ≡ number b = cc in ap Refused (one_number a b i)
+one_meaning (Ok m) (Ok n) e = let i : m ≡ n = cc in ap Ok i
+one_meaning (Ok m) (Err b) e = let z : ◌≡◌ {A = ℕ} 0 1 = cc in absurd (omega arith)
+one_meaning (Err a) (Ok n) e = let z : ◌≡◌ {A = ℕ} 0 1 = cc in absurd (omega arith)
+one_meaning (Err a) (Err b) e = let i : number a ≡ number b = cc in ap Err (one_number a b i)

@@ -26,8 +26,8 @@ use Rattle.format.specs.declared.Refusal.TheVariants.{
   State,
   Surplus,
 }
-use Rattle.format.specs.declared.Outcome.{Outcome}
-use Rattle.format.specs.declared.Outcome.TheVariants.{Value, Refused}
+use Rattle.std.specs.Prelude.{Ok, Err}
+use Rattle.std.specs.declared.result.Result.{Result as CoreResult}
 
 abbrev pub number : Refusal → ℕ
 number Length = 1
@@ -72,7 +72,11 @@ unfoldable pub checked_then : {A : Type 0} → List Check → Result A → Resul
 checked_then [] r = r
 checked_then (check name ok ∷ checks) r = cond ok (checked_then checks r) (refused (number name))
 
+-- what the code hands back: a value, or a refusal by its name
+abbrev pub Returned : Type 0 → Type 0
+Returned A = CoreResult A Refusal
+
 -- what the code's answer says
-abbrev pub meaning : Outcome → Result ℕ
-meaning (Value n) = value n
-meaning (Refused name) = refused (number name)
+abbrev pub meaning : Returned ℕ → Result ℕ
+meaning (Ok n) = value n
+meaning (Err name) = refused (number name)

@@ -255,13 +255,6 @@ impl Refusal {
     }
 }
 
-// The answer of a call that gives a count, a length or a slot: that number, or a refusal.
-#[derive(Clone, Copy)]
-pub enum Outcome {
-    Value(usize),
-    Refused(Refusal),
-}
-
 // The claims of this crate. It does nothing: its contract ties each claim to its proof.
 pub fn promised()
     ensures one_number { OneNumber }

@@ -7,7 +7,7 @@ use Rattle.format.specs.Refusals.{number}
 use Rattle.format.specs.Claims.{OneNumber}
 use Rattle.format.proofs.Numbers.{one_number}
 use Rattle.frame.specs.declared.Head.{Head}
-use Rattle.frame.specs.declared.Verdict.TheVariants.{Sound, Refused}
+use Rattle.std.specs.Prelude.{Err, Ok}
 use Rattle.frame.specs.Judge.{Judged, read_as}
 use Rattle.frame.specs.Claims.{OneVerdict}
 
@@ -20,9 +20,9 @@ same_head a b image e = ap head_of e
 
 pub one_verdict : OneVerdict
 unfolding OneVerdict OneNumber
-one_verdict (Sound a) (Sound b) image e =
+one_verdict (Ok a) (Ok b) image e =
     let i : read_as a.fields a.flag a.number a.start image ≡ read_as b.fields b.flag b.number b.start image = cc in
-    ap Sound (same_head a b image i)
-one_verdict (Sound a) (Refused n) image e = let z : ◌≡◌ {A = ℕ} 0 1 = cc in absurd (omega arith)
-one_verdict (Refused n) (Sound b) image e = let z : ◌≡◌ {A = ℕ} 0 1 = cc in absurd (omega arith)
-one_verdict (Refused m) (Refused n) image e = let i : number m ≡ number n = cc in ap Refused (one_number m n i)
+    ap Ok (same_head a b image i)
+one_verdict (Ok a) (Err n) image e = let z : ◌≡◌ {A = ℕ} 0 1 = cc in absurd (omega arith)
+one_verdict (Err n) (Ok b) image e = let z : ◌≡◌ {A = ℕ} 0 1 = cc in absurd (omega arith)
+one_verdict (Err m) (Err n) image e = let i : number m ≡ number n = cc in ap Err (one_number m n i)

@@ -5,7 +5,8 @@ use Rattle.format.specs.declared.Format.{Format}
 use Rattle.format.specs.declared.Refusal.TheVariants.{Count, Surplus}
 use Rattle.format.specs.Formats.{header_size, format_of, packet_start}
 use Rattle.format.specs.Refusals.{value, refused, number}
-use Rattle.frame.specs.declared.Verdict.{Verdict}
+use Rattle.format.specs.Refusals.{Returned}
+use Rattle.frame.specs.declared.Head.{Head}
 use Rattle.frame.specs.Layout.{layout}
 use Rattle.frame.specs.Judge.{data_count, Frame, Judged, judge, meaning}
 use Rattle.frame.specs.Image.{data_of, image_with, image_of, count_code, with_code, sound_frame}
@@ -102,4 +103,4 @@ OneImage =
 
 -- an answer's meaning leaves no doubt which answer it is, so the contract of judging determines the answer
 unfoldable pub OneVerdict : Type 0
-OneVerdict = (a b : Verdict) (image : List ℕ) → meaning a image ≡ meaning b image → a ≡ b
+OneVerdict = (a b : Returned Head) (image : List ℕ) → meaning a image ≡ meaning b image → a ≡ b

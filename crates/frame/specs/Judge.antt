@@ -11,8 +11,9 @@ use Rattle.format.specs.Tests.{all_true}
 use Rattle.format.specs.Formats.{header_size}
 use Rattle.format.specs.Refusals.{Result, value, refused, Check, check, guarded, number}
 use Rattle.frame.specs.declared.Layout.{Layout}
-use Rattle.frame.specs.declared.Verdict.{Verdict}
-use Rattle.frame.specs.declared.Verdict.TheVariants.{Sound, Refused}
+use Rattle.format.specs.Refusals.{Returned}
+use Rattle.frame.specs.declared.Head.{Head}
+use Rattle.std.specs.Prelude.{Err, Ok}
 use Rattle.frame.specs.Layout.{layout}
 
 -- a frame: its identifier fields, flag and number, and the packet bytes that it carries
@@ -72,6 +73,6 @@ judge format image =
     guarded (checks format (length image) (layout format image)) (read_by (layout format image) image)
 
 -- what the code's answer says of the image
-abbrev pub meaning : Verdict → List ℕ → Result Judged
-meaning (Sound head) image = value (read_as head.fields head.flag head.number head.start image)
-meaning (Refused name) image = refused (number name)
+abbrev pub meaning : Returned Head → List ℕ → Result Judged
+meaning (Ok head) image = value (read_as head.fields head.flag head.number head.start image)
+meaning (Err name) image = refused (number name)

@@ -32,12 +32,6 @@ pub struct Head {
     pub start: usize,
 }
 
-#[derive(Clone, Copy)]
-pub enum Verdict {
-    Sound(Head),
-    Refused(Refusal),
-}
-
 fn wide(x: u8) -> usize
     ensures { result ≡ x }
 {
@@ -182,26 +176,26 @@ fn piece_rule(format: Format, flag: Flag, count: u8, number: u8) -> bool
 
 // Judges an image of any bytes and any length: the frame that it is, or the first refusal of 1 to
 // 4, 25 and 5 that applies.
-pub fn judge(format: Format, image: &[u8]) -> Verdict
+pub fn judge(format: Format, image: &[u8]) -> Result<Head, Refusal>
     ensures { meaning result image.now ≡ judge format image.now }
 {
     let n = image.len();
     let header = format.header_size();
     if n < header {
-        return Verdict::Refused(Refusal::Length);
+        return Err(Refusal::Length);
     }
     if n - header > 8 {
-        return Verdict::Refused(Refusal::Length);
+        return Err(Refusal::Length);
     }
     let l = layout_of(format, image);
     // What the two tests ask; their order is the order of the refusals.
     let formed = l.fixed;
     let data_frame = l.rtr == 0;
     if !formed {
-        return Verdict::Refused(Refusal::Form);
+        return Err(Refusal::Form);
     }
     if !data_frame {
-        return Verdict::Refused(Refusal::Remote);
+        return Err(Refusal::Remote);
     }
     let code = l.code;
     let count = data_count(code);
@@ -209,13 +203,13 @@ pub fn judge(format: Format, image: &[u8]) -> Verdict
     // Most lengths are right: one test for them, and a second for which way one is wrong.
     if n - header != said {
         if n - header < said {
-            return Verdict::Refused(Refusal::Count);
+            return Err(Refusal::Count);
         }
-        return Verdict::Refused(Refusal::Surplus);
+        return Err(Refusal::Surplus);
     }
     let flag = l.flag;
     if !piece_rule(format, flag, count, l.number) {
-        return Verdict::Refused(Refusal::Piece);
+        return Err(Refusal::Piece);
     }
     let fields = l.fields;
     let head = Head {
@@ -224,7 +218,7 @@ pub fn judge(format: Format, image: &[u8]) -> Verdict
         number: l.number,
         start: l.start,
     };
-    Verdict::Sound(head)
+    Ok(head)
 }
 
 // The claims of this crate. It does nothing: its contract ties each claim to its proof.

@@ -4,23 +4,24 @@ use Rattle.format.specs.Refusals.{number}
 use Rattle.format.specs.Claims.{OneNumber}
 use Rattle.format.proofs.Numbers.{one_number}
 use Rattle.lister.specs.declared.Why.TheVariants as why
+use Rattle.std.specs.Prelude.{Ok, Err}
 use Rattle.lister.specs.Claims.{OneWhy}
 
 pub one_why : OneWhy
 unfolding OneWhy OneNumber
-one_why why.Input why.Input e = refl
-one_why why.Input why.Room e = cc
-one_why why.Input why.Damaged e = cc
-one_why why.Input (why.Refused name) e = cc
-one_why why.Room why.Input e = cc
-one_why why.Room why.Room e = refl
-one_why why.Room why.Damaged e = cc
-one_why why.Room (why.Refused name) e = cc
-one_why why.Damaged why.Input e = cc
-one_why why.Damaged why.Room e = cc
-one_why why.Damaged why.Damaged e = refl
-one_why why.Damaged (why.Refused name) e = cc
-one_why (why.Refused name) why.Input e = cc
-one_why (why.Refused name) why.Room e = cc
-one_why (why.Refused name) why.Damaged e = cc
-one_why (why.Refused a) (why.Refused b) e = let n : number a ≡ number b = cc in ap why.Refused (one_number a b n)
+one_why (Ok why.Input) (Ok why.Input) e = refl
+one_why (Ok why.Input) (Ok why.Room) e = cc
+one_why (Ok why.Input) (Ok why.Damaged) e = cc
+one_why (Ok why.Input) (Err name) e = cc
+one_why (Ok why.Room) (Ok why.Input) e = cc
+one_why (Ok why.Room) (Ok why.Room) e = refl
+one_why (Ok why.Room) (Ok why.Damaged) e = cc
+one_why (Ok why.Room) (Err name) e = cc
+one_why (Ok why.Damaged) (Ok why.Input) e = cc
+one_why (Ok why.Damaged) (Ok why.Room) e = cc
+one_why (Ok why.Damaged) (Ok why.Damaged) e = refl
+one_why (Ok why.Damaged) (Err name) e = cc
+one_why (Err name) (Ok why.Input) e = cc
+one_why (Err name) (Ok why.Room) e = cc
+one_why (Err name) (Ok why.Damaged) e = cc
+one_why (Err a) (Err b) e = let n : number a ≡ number b = cc in ap Err (one_number a b n)

@@ -14,7 +14,7 @@ use Rattle.trace.specs.declared.Entry.{Entry}
 use Rattle.trace.specs.Records as records
 use Rattle.trace.specs.Records.{record_at}
 use Rattle.lister.specs.declared.Listing.{Listing}
-use Rattle.lister.specs.declared.Why.TheVariants.{Refused}
+use Rattle.std.specs.Prelude.{Err}
 use Rattle.lister.specs.Listing as room
 use Rattle.lister.specs.Listing.{Reached, listed, handed_back, begun, listing, listing_after, stops_at, last_lines, ending}
 
@@ -23,13 +23,13 @@ module _ (l : Listing) (store taken output : List ℕ) where
   all_of_it = listed (length taken) (room.has_room output) (begun l store taken)
 
   pub at_state : not (sound Extended l.slots) ≡ true
-      → listing_after (record { listing = l; why = Refused State; used = 0; written = 0 }) store output ≡ listing l store taken output
+      → listing_after (record { listing = l; why = Err State; used = 0; written = 0 }) store output ≡ listing l store taken output
   unfolding listing
   at_state h = ap (handed_back l store taken output) (stop State _ all_of_it (not-true _ h))
 
   module _ (ok : not (sound Extended l.slots) ≡ false) where
     pub at_store : length store ≢ 32768
-        → listing_after (record { listing = l; why = Refused Store; used = 0; written = 0 }) store output ≡ listing l store taken output
+        → listing_after (record { listing = l; why = Err Store; used = 0; written = 0 }) store output ≡ listing l store taken output
     unfolding listing
     at_store h = ap (handed_back l store taken output) (pass State _ all_of_it (not-false _ ok) (stop Store _ all_of_it (ne_eqb _ _ h)))
 

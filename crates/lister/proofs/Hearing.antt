@@ -10,13 +10,16 @@ use Rattle.format.specs.Refusals.{Result, value, refused, checked_then, number}
 use Rattle.format.proofs.Tests.{from_each}
 use Rattle.frame.specs.declared.Head.{Head}
 use Rattle.frame.specs.Judge.{Frame, Judged, judge}
-use Rattle.frame.specs.declared.Verdict.{Verdict}
-use Rattle.frame.specs.declared.Verdict.TheVariants as verdict
+use Rattle.format.specs.Refusals.{Returned}
+use Rattle.frame.specs.declared.Head.{Head}
+use Rattle.std.specs.Prelude.{Err, Ok}
 use Rattle.frame.specs.Judge as verdicts
 use Rattle.frame.specs.Claims.{Bytes}
 use Rattle.frame.proofs.Judged.{sound_image, FrameInRange, frame_in_range}
+use Rattle.format.specs.Refusals.{Returned}
 use Rattle.stream.specs.declared.Answer.{Answer}
 use Rattle.stream.specs.declared.Answer.TheVariants.{Filtered}
+use Rattle.std.specs.Prelude.{Ok}
 use Rattle.stream.specs.Answers.{meaning}
 use Rattle.stream.specs.declared.Progress.{Progress}
 use Rattle.stream.specs.declared.Progress.TheVariants.{Idle}
@@ -56,7 +59,7 @@ module _ (bus : ℕ) (b : bus ≤ 1) (head : Head) (image : List ℕ) (h : Heads
   are_listed (fields.Extended p s g d f) e r = r
   are_listed (fields.Standard p a s) e r = let z : ◌≡◌ {A = ℕ} 0 1 = cc in absurd (omega arith)
 
-  pub line_in_range_lem : (ordinal count : ℕ) (answer : Answer) → count ≡ length image - head.start
+  pub line_in_range_lem : (ordinal count : ℕ) (answer : Returned Answer) → count ≡ length image - head.start
       → line_in_range (line.Frame ordinal bus head.fields head.flag head.number count answer) ≡ true
   unfolding line_in_range
   line_in_range_lem ordinal count answer e =
@@ -91,7 +94,7 @@ module _ (slots : List Slot) (store : List ℕ) (bus : ℕ) (image : List ℕ) (
 
     module _ (far : 16 ≤ place (has_key key) slots) where
       -- no slot is left for it
-      pub at-full : 16 ≤ place is_closed slots → after_turn Extended slots (turn_of 0 (slot_at slots 0) Filtered) store ≡ heard (extended_station slots) store bus image
+      pub at-full : 16 ≤ place is_closed slots → after_turn Extended slots (turn_of 0 (slot_at slots 0) (Ok Filtered)) store ≡ heard (extended_station slots) store bus image
       at-full full =
           at_none Extended slots store bus image (names_first slots) s w b judged e (place (has_key key) slots) refl far
           ∙ opened _ (open_full (extended_station slots) key s range far full)
@@ -130,19 +133,19 @@ module _ (slots : List Slot) (store : List ℕ) (bus : ℕ) (image : List ℕ) (
 -- ---- what is told
 
 -- a verdict that is sound has such a head
-pub heads : (image : List ℕ) → Bytes image → (v : Verdict) (head : Head) → verdicts.meaning v image ≡ judge Extended image → v ≡ verdict.Sound head
+pub heads : (image : List ℕ) → Bytes image → (v : Returned Head) (head : Head) → verdicts.meaning v image ≡ judge Extended image → v ≡ Ok head
     → Heads head image
 heads image bytes v head e ev =
-    let j = ap (λ (x : Verdict). verdicts.meaning x image) (sym ev) ∙ e in
+    let j = ap (λ (x : Returned Head). verdicts.meaning x image) (sym ev) ∙ e in
     let n = sound_image Extended image (record { frame = frame_of head image; start = head.start }) (sym j) in
     record { judged = j; bytes = bytes; start = n.starts; most = n.most }
 
 module _ (slots : List Slot) (store : List ℕ) (ordinal bus : ℕ) (image : List ℕ) (s : sound Extended slots ≡ true) (w : length store ≡ 32768) (b : bus ≤ 1) where
-  pub tells_refused : (v : Verdict) (own : Refusal) → verdicts.meaning v image ≡ judge Extended image → v ≡ verdict.Refused own
+  pub tells_refused : (v : Returned Head) (own : Refusal) → verdicts.meaning v image ≡ judge Extended image → v ≡ Err own
       → Tells slots store ordinal bus image (record { at = 0; slot = slot_at slots 0; line = line.Refused ordinal bus own }) store
   unfolding line_text line_in_range
   tells_refused v own e ev =
-      let j : refused (number own) ≡ judge Extended image = ap (λ (x : Verdict). verdicts.meaning x image) (sym ev) ∙ e in
+      let j : refused (number own) ≡ judge Extended image = ap (λ (x : Returned Head). verdicts.meaning x image) (sym ev) ∙ e in
       let h = at_refused slots store bus image s w b own j in
       record {
         below = omega arith;

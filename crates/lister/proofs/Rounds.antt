@@ -26,8 +26,10 @@ use Rattle.trace.proofs.Arriving.{sized}
 use Rattle.trace.proofs.LineRoom.{room_for_line}
 use Rattle.lister.specs.declared.Listing.{Listing}
 use Rattle.lister.specs.declared.Told.{Told}
+use Rattle.format.specs.Refusals.{Returned}
 use Rattle.lister.specs.declared.Why.{Why}
 use Rattle.lister.specs.declared.Why.TheVariants as why
+use Rattle.std.specs.Prelude.{Ok, Err}
 use Rattle.lister.specs.Listing.{extended_station, opened_for, heard, line_for, next, Stand, listed_one, Reason, input, room, damage, Reached, reached, listed_by, listed, has_room, handed_back, begun, meaning, listing_after}
 use Rattle.lister.specs.Parts.{Tells, Adds}
 
@@ -139,13 +141,13 @@ module _ {slots₀ : List Slot} {count₀ : ℕ} {store₀ taken output₀ : Lis
   text_size : length (take written output) ≡ written
   text_size = length-take-le written output (omega (arith, m.in_output, m.size))
 
-  abbrev Ends : Why → Type 0
+  abbrev Ends : Returned Why → Type 0
   Ends w =
       listing_after (record { listing = beginning slots count; why = w; used = used; written = written }) store output
       ≡ handed_back (beginning slots₀ count₀) store₀ taken output₀ (value (listed (length taken) (has_room output₀) (begun (beginning slots₀ count₀) store₀ taken)))
 
   -- it stops
-  stops : (w : Why) (why : Reason) → meaning w ≡ value why
+  stops : (w : Returned Why) (why : Reason) → meaning w ≡ value why
       → listed_by (has_room output₀) here (record_at (drop used taken)) (listed (length taken - used - 1) (has_room output₀)) ≡ reached why here → Ends w
   stops w why e q =
       let used-is : length taken - length (drop used taken) ≡ used = omega (arith, left, m.in_input) in
@@ -154,24 +156,24 @@ module _ {slots₀ : List Slot} {count₀ : ℕ} {store₀ taken output₀ : Lis
       sym (ap (λ (x : Reached). handed_back (beginning slots₀ count₀) store₀ taken output₀ (value x)) (m.going ∙ next_round ∙ q)
       ∙ (λ i. record { why = sym e i; listing = beginning slots count; store = store; used = used-is i; written = text_size i; output = output_is i }))
 
-  pub stops_empty : none ≡ record_at (drop used taken) → Ends why.Input
-  stops_empty e = stops why.Input input refl (rw (← e))
+  pub stops_empty : none ≡ record_at (drop used taken) → Ends (Ok why.Input)
+  stops_empty e = stops (Ok why.Input) input refl (rw (← e))
 
-  pub stops_cut : cut ≡ record_at (drop used taken) → Ends why.Input
-  stops_cut e = stops why.Input input refl (rw (← e))
+  pub stops_cut : cut ≡ record_at (drop used taken) → Ends (Ok why.Input)
+  stops_cut e = stops (Ok why.Input) input refl (rw (← e))
 
-  pub stops_damaged : damaged ≡ record_at (drop used taken) → Ends why.Damaged
-  stops_damaged e = stops why.Damaged damage refl (rw (← e))
+  pub stops_damaged : damaged ≡ record_at (drop used taken) → Ends (Ok why.Damaged)
+  stops_damaged e = stops (Ok why.Damaged) damage refl (rw (← e))
 
   module _ (bus size : ℕ) (image : List ℕ) (e : whole bus image size ≡ record_at (drop used taken)) where
     pub fits : (4 ≤ size) × (size ≤ length (drop used taken)) × (bus ≤ 1)
     unfolding Sized
     fits = sized (drop used taken) bus image size (sym e)
 
-    pub stops-room : length output - written < 96 → Ends why.Room
+    pub stops-room : length output - written < 96 → Ends (Ok why.Room)
     stops-room h =
         let n : length output₀ < length (take written output) + 96 = omega (arith, text_size, m.size, m.in_output, h) in
-        stops why.Room room refl (rw (← e, lt-leb (length (take written output) + 96) (length output₀) n))
+        stops (Ok why.Room) room refl (rw (← e, lt-leb (length (take written output) + 96) (length output₀) n))
 
     -- its line has room
     this : 96 ≤ length output - written

@@ -7,6 +7,7 @@ use Rattle.station.specs.Stations.{sound_station, full_size}
 use Rattle.trace.specs.Records.{whole, record_at}
 use Rattle.trace.specs.Lines.{header_line}
 use Rattle.lister.specs.declared.Listing.{Listing}
+use Rattle.format.specs.Refusals.{Returned}
 use Rattle.lister.specs.declared.Why.{Why}
 use Rattle.lister.specs.Listing.{new_listing, extended_station, Stand, Reached, listed, begun, AfterListing, listing, last_lines, ending, meaning}
 
@@ -104,4 +105,4 @@ Printed =
 
 -- its meaning leaves no doubt which answer it is, so the contract of listing determines the answer
 unfoldable pub OneWhy : Type 0
-OneWhy = (a b : Why) → meaning a ≡ meaning b → a ≡ b
+OneWhy = (a b : Returned Why) → meaning a ≡ meaning b → a ≡ b

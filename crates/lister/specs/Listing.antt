@@ -17,8 +17,10 @@ use Rattle.trace.specs.Records.{Found, whole, damaged, cut, none, record_at}
 use Rattle.trace.specs.Lines.{frame_line, refused_line, stopped_line, count_line}
 use Rattle.lister.specs.declared.Listing.{Listing}
 use Rattle.lister.specs.declared.Listed.{Listed}
+use Rattle.format.specs.Refusals.{Returned}
 use Rattle.lister.specs.declared.Why.{Why}
 use Rattle.lister.specs.declared.Why.TheVariants as why
+use Rattle.std.specs.Prelude.{Ok, Err}
 
 -- a listing begins with every slot closed and no record
 abbrev pub new_listing : Listing
@@ -140,11 +142,11 @@ listing l store taken output =
     (listed (length taken) (has_room output) (begun l store taken)))
 
 -- what the code hands back, and the store and the output afterwards, say
-abbrev pub meaning : Why → Result Reason
-meaning why.Input = value input
-meaning why.Room = value room
-meaning why.Damaged = value damage
-meaning (why.Refused name) = refused (number name)
+abbrev pub meaning : Returned Why → Result Reason
+meaning (Ok why.Input) = value input
+meaning (Ok why.Room) = value room
+meaning (Ok why.Damaged) = value damage
+meaning (Err name) = refused (number name)
 
 abbrev pub listing_after : Listed → (store output : List ℕ) → AfterListing
 listing_after r store output =

@@ -20,9 +20,9 @@ ghost use Rattle.lister.specs.Parts.{Heads, Tells, Adds};
 ghost use Rattle.lister.specs.Claims.{ListingStaysSound, InParts, Printed, OneWhy};
 ghost use Rattle.lister.specs.Examples.{ListingExamples, ListingBounds};
 
-use format::{Format, Outcome, Refusal};
-use frame::{Head, Verdict, judge};
-use slot::{Key, Occupancy, Slot};
+use format::{Format, Refusal};
+use frame::{Head, judge};
+use slot::{Key, Slot};
 use station::{Store, Turn, open_slot, progress_in};
 use stream::{Answer, Area, Progress};
 use trace::{Entry, LINE_ROOM, Line};
@@ -44,8 +44,6 @@ pub enum Why {
     Room,
     // The next record is damaged.
     Damaged,
-    // The slots are not sound, or the store is not 32,768 bytes.
-    Refused(Refusal),
 }
 
 // What a call hands back: the next listing, why it stopped, how many bytes of the input it took and
@@ -53,7 +51,7 @@ pub enum Why {
 #[derive(Clone, Copy)]
 pub struct Listed {
     pub listing: Listing,
-    pub why: Why,
+    pub why: Result<Why, Refusal>,
     pub used: usize,
     pub written: usize,
 }
@@ -132,7 +130,7 @@ fn hear(slots: [Slot; 16], store: &mut [u8], bus: u8, head: Head, image: &[u8]) 
     Turn {
         at: 0,
         slot: first,
-        answer: Answer::Filtered,
+        answer: Ok(Answer::Filtered),
     }
 }
 
@@ -142,7 +140,7 @@ fn tell(slots: [Slot; 16], store: &mut [u8], ordinal: u64, bus: u8, image: &[u8]
     ensures { Tells slots store.old ordinal bus image.now result store.new }
 {
     match judge(Format::Extended, image) {
-        Verdict::Refused(name) => {
+        Err(name) => {
             let first = slots[0];
             Told {
                 at: 0,
@@ -150,7 +148,7 @@ fn tell(slots: [Slot; 16], store: &mut [u8], ordinal: u64, bus: u8, image: &[u8]
                 line: Line::Refused { ordinal, bus, name },
             }
         }
-        Verdict::Sound(head) => {
+        Ok(head) => {
             let t = hear(slots, store, bus, head, image);
             let slot = t.slot;
             let answer = t.answer;
@@ -182,8 +180,8 @@ fn put_line(line: Line, output: &mut [u8], at: usize) -> usize
     ensures { Adds (line_text line) output.old at result output.new }
 {
     match trace::write_line(line, &mut output[at..]) {
-        Outcome::Value(n) => at + n,
-        Outcome::Refused(_) => at,
+        Ok(n) => at + n,
+        Err(_) => at,
     }
 }
 
@@ -213,7 +211,7 @@ fn put_end(stops: bool, count: u64, text: &mut [u8; 192]) -> usize
     put_line(Line::Records { count }, text, to)
 }
 
-fn ended(slots: [Slot; 16], count: u64, why: Why, used: usize, written: usize) -> Listed
+fn ended(slots: [Slot; 16], count: u64, why: Result<Why, Refusal>, used: usize, written: usize) -> Listed
     ensures { result ≡ record { listing = record { slots = slots; count = count }; why = why; used = used; written = written } }
 {
     let listing = Listing { slots, count };
@@ -236,12 +234,12 @@ fn list_all(listing: Listing, store: &mut [u8], input: &[u8], output: &mut [u8])
     let mut written = 0;
     loop {
         match trace::read_record(&input[used..]) {
-            Entry::End => return ended(slots, count, Why::Input, used, written),
-            Entry::Cut => return ended(slots, count, Why::Input, used, written),
-            Entry::Damaged => return ended(slots, count, Why::Damaged, used, written),
+            Entry::End => return ended(slots, count, Ok(Why::Input), used, written),
+            Entry::Cut => return ended(slots, count, Ok(Why::Input), used, written),
+            Entry::Damaged => return ended(slots, count, Ok(Why::Damaged), used, written),
             Entry::Record { bus, size } => {
                 if output.len() - written < LINE_ROOM {
-                    return ended(slots, count, Why::Room, used, written);
+                    return ended(slots, count, Ok(Why::Room), used, written);
                 }
                 count = std::num::wrapping_add_u64(count, 1);
                 let from = used + 4;
@@ -264,7 +262,7 @@ impl Listing {
         ensures { result ≡ new_listing }
     {
         let slot = Slot {
-            occupancy: Occupancy::Closed,
+            occupancy: None,
         };
         let slots = [slot; 16];
         Listing { slots, count: 0 }
@@ -277,10 +275,10 @@ impl Listing {
     {
         let slots = self.slots;
         if !slot::sound(Format::Extended, slots) {
-            return ended(slots, self.count, Why::Refused(Refusal::State), 0, 0);
+            return ended(slots, self.count, Err(Refusal::State), 0, 0);
         }
         if store.len() != Store::SIZE {
-            return ended(slots, self.count, Why::Refused(Refusal::Store), 0, 0);
+            return ended(slots, self.count, Err(Refusal::Store), 0, 0);
         }
         list_all(self, store, input, output)
     }
@@ -290,7 +288,7 @@ impl Listing {
     // a damaged record, if what is left begins with one or is the beginning of a record, and the
     // count. Whole records that are left are not listed and don't stop the listing: list is the
     // call for them. Refuses with ROOM, and then writes nothing.
-    pub fn end(self, rest: &[u8], output: &mut [u8]) -> Outcome
+    pub fn end(self, rest: &[u8], output: &mut [u8]) -> Result<usize, Refusal>
         ensures result_value { outcome·meaning result ≡ answer (ending self rest.now (length output.old)) }
         ensures output_after { output.new ≡ over·after (ending self rest.now (length output.old)) output.old }
     {
@@ -298,9 +296,9 @@ impl Listing {
         let stops = stops_at(rest);
         let n = put_end(stops, self.count, &mut text);
         if copying::copy_in(output, 0, &text[..n]) {
-            return Outcome::Value(n);
+            return Ok(n);
         }
-        Outcome::Refused(Refusal::Room)
+        Err(Refusal::Room)
     }
 }
 

@@ -6,7 +6,7 @@ ghost use Rattle.std.specs.Prelude.{◌≡◌, ◌≤◌, false, length, take};
 ghost use Rattle.format.specs.Outputs.{output_after};
 ghost use Rattle.lister.specs.Listing as listings;
 
-use format::Outcome;
+use format::Refusal;
 use lister::{Listing, Why};
 use std::io::{Input, Print};
 use trace::Line;
@@ -20,10 +20,10 @@ struct Session {
 }
 
 // Writes a line or lines that stand at the head of the output, and answers whether they were.
-fn write(rt: &(impl Print + Eprint), answer: Outcome, output: &[u8]) -> bool {
+fn write(rt: &(impl Print + Eprint), answer: Result<usize, Refusal>, output: &[u8]) -> bool {
     match answer {
-        Outcome::Value(n) => pipes::write_out(rt, output, n),
-        Outcome::Refused(_) => false,
+        Ok(n) => pipes::write_out(rt, output, n),
+        Err(_) => false,
     }
 }
 
@@ -95,15 +95,15 @@ fn turn(
     }
     let left = pipes::keep(input, listed.used, held);
     match why {
-        Why::Input => more(rt, listing, input, left, output),
-        Why::Room => Session {
+        Ok(Why::Input) => more(rt, listing, input, left, output),
+        Ok(Why::Room) => Session {
             listing: listing,
             held: left,
             going: true,
         },
-        Why::Damaged => end(rt, listing, &input[0..left], output),
+        Ok(Why::Damaged) => end(rt, listing, &input[0..left], output),
         // Never: the listing stays sound (claim ListingStaysSound of lister), and the store has its size.
-        Why::Refused(_) => ended(listing),
+        Err(_) => ended(listing),
     }
 }
 

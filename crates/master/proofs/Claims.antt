@@ -16,8 +16,9 @@ use Rattle.format.proofs.Checks.{Passed}
 use Rattle.master.specs.declared.Kind.{Kind}
 use Rattle.master.specs.declared.Kind.TheVariants.{Poll, DataBlock, Command}
 use Rattle.master.specs.declared.Exchange.{Exchange}
-use Rattle.master.specs.declared.Activity.{Activity}
-use Rattle.master.specs.declared.Activity.TheVariants.{Idle, UnderWay}
+use Rattle.std.specs.Prelude.{Option}
+use Rattle.master.specs.declared.Exchange.{Exchange}
+use Rattle.std.specs.Prelude.{None, Some}
 use Rattle.master.specs.declared.Master.{Master}
 use Rattle.master.specs.Masters.{plan_of, chosen_bus, other, switched, buses_in_range, chosen_sound, exchange_sound, sound}
 use Rattle.master.specs.Exchanges.{Told, send, done, gave_up, Step, MasterAfter, given, handed_back, under_way, sent, exchange_ended, starting, counts, replying, chosen_after, again, expired, timing_out}
@@ -52,11 +53,11 @@ after_sound chosen exchange s = go (eqb exchange.sends (plan_of exchange.kind).f
     go false = s
 
 made_sound : (chosen : List ℕ) (exchange : Exchange) → chosen_sound chosen ≡ true → exchange.node ≤ 63 → 1 ≤ exchange.sends → exchange.sends ≤ (plan_of exchange.kind).total
-    → sound (record { chosen = chosen; activity = UnderWay exchange }) ≡ true
+    → sound (record { chosen = chosen; activity = Some exchange }) ≡ true
 unfolding sound exchange_sound
 made_sound chosen exchange s n l h = from_each _ (s, (from_each _ (omega tests, (omega tests, (omega tests, tt))), tt))
 
-idle_sound : (chosen : List ℕ) → chosen_sound chosen ≡ true → sound (record { chosen = chosen; activity = Idle }) ≡ true
+idle_sound : (chosen : List ℕ) → chosen_sound chosen ≡ true → sound (record { chosen = chosen; activity = None }) ≡ true
 unfolding sound exchange_sound
 idle_sound chosen s = from_each _ (s, (refl, tt))
 
@@ -73,10 +74,10 @@ one_send Poll = omega arith
 one_send DataBlock = omega arith
 one_send Command = omega arith
 
-expired_sound : (chosen : List ℕ) (activity : Activity) → chosen_sound chosen ≡ true → exchange_sound activity ≡ true → sound (expired chosen activity).next ≡ true
+expired_sound : (chosen : List ℕ) (activity : Option Exchange) → chosen_sound chosen ≡ true → exchange_sound activity ≡ true → sound (expired chosen activity).next ≡ true
 unfolding expired exchange_sound
-expired_sound chosen Idle s e = idle_sound chosen s
-expired_sound chosen (UnderWay x) s e = go (ltb x.sends (plan_of x.kind).total) refl
+expired_sound chosen None s e = idle_sound chosen s
+expired_sound chosen (Some x) s e = go (ltb x.sends (plan_of x.kind).total) refl
   where
     go : (b : Bool) → ltb x.sends (plan_of x.kind).total ≡ b
         → sound (cond b (sent (chosen_after chosen x) (again x)) (exchange_ended gave_up (chosen_after chosen x))).next ≡ true
@@ -138,7 +139,7 @@ refused_play_no_part master (c ∷ calls) =
 
 -- an exchange under way was sent last on that bus
 abbrev SentOn : ℕ → Master → Type 0
-SentOn bus master = (exchange : Exchange) → master.activity ≡ UnderWay exchange → chosen_bus master.chosen exchange.node ≡ bus
+SentOn bus master = (exchange : Exchange) → master.activity ≡ Some exchange → chosen_bus master.chosen exchange.node ≡ bus
 
 abbrev After : ℕ → MasterAfter → Type 0
 After bus h = SentOn (sent_on bus h.answer) h.master
@@ -149,10 +150,10 @@ sends_there bus chosen x exchange e = let i : x ≡ exchange = cc in ap (λ (y :
 ends_there : (bus : ℕ) (answer : Told) (chosen : List ℕ) → After bus (given (exchange_ended answer chosen))
 ends_there bus answer chosen exchange e = let z : ◌≡◌ {A = ℕ} 0 1 = cc in absurd (omega arith)
 
-expires_there : (bus : ℕ) (chosen : List ℕ) (activity : Activity) → After bus (given (expired chosen activity))
+expires_there : (bus : ℕ) (chosen : List ℕ) (activity : Option Exchange) → After bus (given (expired chosen activity))
 unfolding expired
-expires_there bus chosen Idle = ends_there bus gave_up chosen
-expires_there bus chosen (UnderWay x) = go (ltb x.sends (plan_of x.kind).total)
+expires_there bus chosen None = ends_there bus gave_up chosen
+expires_there bus chosen (Some x) = go (ltb x.sends (plan_of x.kind).total)
   where
     go : (b : Bool)
         → After bus (given (cond b (sent (chosen_after chosen x) (again x)) (exchange_ended gave_up (chosen_after chosen x))))
@@ -169,19 +170,19 @@ all_calls : (bus : ℕ) (master : Master) (calls : List Call) → SentOn bus mas
 all_calls bus master [] h = h
 all_calls bus master (c ∷ calls) h = all_calls (sent_on bus (call master c).answer) (call master c).master calls (one_call bus master c h)
 
-none_sent : (bus : ℕ) (master : Master) → master.activity ≡ Idle → SentOn bus master
+none_sent : (bus : ℕ) (master : Master) → master.activity ≡ None → SentOn bus master
 none_sent bus master i exchange e = let z : ◌≡◌ {A = ℕ} 0 1 = cc in absurd (omega arith)
 
 pub latest_send : LatestSend
 unfolding LatestSend
 latest_send master calls bus exchange i e = all_calls bus master calls (none_sent bus master i) exchange e
 
-counted : (chosen : List ℕ) (bus node function : ℕ) (activity : Activity) (latest : ℕ)
-    → ((exchange : Exchange) → activity ≡ UnderWay exchange → chosen_bus chosen exchange.node ≡ latest)
+counted : (chosen : List ℕ) (bus node function : ℕ) (activity : Option Exchange) (latest : ℕ)
+    → ((exchange : Exchange) → activity ≡ Some exchange → chosen_bus chosen exchange.node ≡ latest)
     → counts chosen bus node function activity ≡ true → bus ≡ latest
 unfolding counts
-counted chosen bus node function Idle latest h c = let z : ◌≡◌ {A = ℕ} 0 1 = cc in absurd (omega arith)
-counted chosen bus node function (UnderWay x) latest h c = eqb-true bus _ (each _ c).1.1.0 ∙ h x refl
+counted chosen bus node function None latest h c = let z : ◌≡◌ {A = ℕ} 0 1 = cc in absurd (omega arith)
+counted chosen bus node function (Some x) latest h c = eqb-true bus _ (each _ c).1.1.0 ∙ h x refl
 
 pub late_reply : LateReply
 unfolding LateReply replying
@@ -204,7 +205,7 @@ goes master c calls step said last e h = (
 )
 
 abbrev on : List ℕ → Kind → ℕ → ℕ → Master
-on chosen kind node sends = record { chosen = chosen; activity = UnderWay (record { kind = kind; node = node; sends = sends }) }
+on chosen kind node sends = record { chosen = chosen; activity = Some (record { kind = kind; node = node; sends = sends }) }
 
 switched_there : (chosen : List ℕ) (node : ℕ) → chosen_sound chosen ≡ true → node ≤ 63 → chosen_bus (switched chosen node) node ≡ other (chosen_bus chosen node)
 unfolding chosen_sound switched chosen_bus
@@ -212,12 +213,12 @@ switched_there chosen node s n =
     let l : length chosen ≡ 64 = eqb-true _ _ (each _ s).0 in
     get_or-set_same chosen node _ 0 (omega arith)
 
-module _ (master : Master) (node : ℕ) (s : sound master ≡ true) (i : master.activity ≡ Idle) (n : node ≤ 63) where
+module _ (master : Master) (node : ℕ) (s : sound master ≡ true) (i : master.activity ≡ None) (n : node ≤ 63) where
   started : (kind : Kind) → given (sent master.chosen (record { kind = kind; node = node; sends = 1 })) ≡ call master (start kind node)
   started kind = start-sends master kind node s n (ap under_way i)
 
   waits : (chosen : List ℕ) (kind : Kind) (sends : ℕ) → chosen_sound chosen ≡ true → 1 ≤ sends → sends ≤ (plan_of kind).total
-      → given (expired chosen (UnderWay (record { kind = kind; node = node; sends = sends }))) ≡ call (on chosen kind node sends) timeout
+      → given (expired chosen (Some (record { kind = kind; node = node; sends = sends }))) ≡ call (on chosen kind node sends) timeout
   waits chosen kind sends c l h = timeout_expires (on chosen kind node sends) (made_sound chosen _ c n l h) refl
 
 pub unanswered : Unanswered

@@ -15,7 +15,7 @@ use Rattle.format.proofs.Checks.{stop, pass, none_left}
 use Rattle.master.specs.declared.Kind.{Kind}
 use Rattle.master.specs.declared.Kind.TheVariants.{Poll, DataBlock, Command}
 use Rattle.master.specs.declared.Exchange.{Exchange}
-use Rattle.master.specs.declared.Activity.TheVariants.{UnderWay}
+use Rattle.std.specs.Prelude.{Some}
 use Rattle.master.specs.declared.Master.{Master}
 use Rattle.master.specs.Masters.{plan_of, switched, exchange_sound, sound}
 use Rattle.master.specs.Exchanges.{MasterAfter, given, handed_back, gave_up, done, under_way, sent, exchange_ended, starting, counts, replying, chosen_after, again, expired, timing_out}
@@ -35,11 +35,11 @@ module _ (chosen : List ℕ) (exchange : Exchange) where
   switches h = rw (eq-eqb _ _ h)
 
   pub goes_on : exchange.sends < (plan_of exchange.kind).total
-      → sent (chosen_after chosen exchange) (again exchange) ≡ expired chosen (UnderWay exchange)
+      → sent (chosen_after chosen exchange) (again exchange) ≡ expired chosen (Some exchange)
   unfolding expired
   goes_on h = rw (lt-ltb _ _ h)
 
-  pub gives_up : (plan_of exchange.kind).total ≤ exchange.sends → exchange_ended gave_up (chosen_after chosen exchange) ≡ expired chosen (UnderWay exchange)
+  pub gives_up : (plan_of exchange.kind).total ≤ exchange.sends → exchange_ended gave_up (chosen_after chosen exchange) ≡ expired chosen (Some exchange)
   unfolding expired
   gives_up h = rw (le-ltb _ _ h)
 
@@ -50,7 +50,7 @@ few_sends Command = omega arith
 
 -- ---- the calls
 
-pub node_in_range : (master : Master) (exchange : Exchange) → sound master ≡ true → master.activity ≡ UnderWay exchange → exchange.node ≤ 63
+pub node_in_range : (master : Master) (exchange : Exchange) → sound master ≡ true → master.activity ≡ Some exchange → exchange.node ≤ 63
 unfolding sound exchange_sound
 node_in_range master exchange s e = leb-true _ _ (each _ (ap exchange_sound (sym e) ∙ (each _ s).1.0)).0
 

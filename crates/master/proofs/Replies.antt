@@ -14,8 +14,9 @@ use Rattle.format.proofs.Tests.{each, from_each, tests}
 use Rattle.master.specs.declared.Kind.{Kind}
 use Rattle.master.specs.declared.Kind.TheVariants.{Poll, DataBlock, Command}
 use Rattle.master.specs.declared.Exchange.{Exchange}
-use Rattle.master.specs.declared.Activity.{Activity}
-use Rattle.master.specs.declared.Activity.TheVariants.{UnderWay}
+use Rattle.std.specs.Prelude.{Option}
+use Rattle.master.specs.declared.Exchange.{Exchange}
+use Rattle.std.specs.Prelude.{Some}
 use Rattle.master.specs.declared.Master.{Master}
 use Rattle.master.specs.Masters.{plan_of, chosen_bus, switched, chosen_sound, sound}
 use Rattle.master.specs.Exchanges.{done, gave_up, Step, MasterAfter, given, under_way, sent, exchange_ended, starting, counts, replying, chosen_after, again, expired, timing_out}
@@ -32,7 +33,7 @@ awaited_small Poll = omega arith
 awaited_small DataBlock = omega arith
 awaited_small Command = omega arith
 
-module _ (m : Master) (x : Exchange) (s : sound m ≡ true) (e : m.activity ≡ UnderWay x) where
+module _ (m : Master) (x : Exchange) (s : sound m ≡ true) (e : m.activity ≡ Some x) where
   abbrev on_it : ℕ
   on_it = chosen_bus m.chosen x.node
 
@@ -40,7 +41,7 @@ module _ (m : Master) (x : Exchange) (s : sound m ≡ true) (e : m.activity ≡ 
   unfolding sound chosen_sound chosen_bus
   bus_small = bus_at m.chosen x.node (each _ (each _ s).0).1.0
 
-  it_counts : counts m.chosen on_it x.node (plan_of x.kind).awaited (UnderWay x) ≡ true
+  it_counts : counts m.chosen on_it x.node (plan_of x.kind).awaited (Some x) ≡ true
   unfolding counts
   it_counts = from_each _ (eq-eqb x.node _ refl, (eq-eqb (plan_of x.kind).awaited _ refl, (eq-eqb on_it _ refl, tt)))
 
@@ -55,7 +56,7 @@ module _ (m : Master) (x : Exchange) (s : sound m ≡ true) (e : m.activity ≡ 
       (ap under_way e)
       (ap (counts m.chosen on_it x.node (plan_of x.kind).awaited) e ∙ it_counts))
 
-  no_other : (b n f : ℕ) → counts m.chosen b n f (UnderWay x) ≡ true → (b ≡ on_it) × (n ≡ x.node) × (f ≡ (plan_of x.kind).awaited)
+  no_other : (b n f : ℕ) → counts m.chosen b n f (Some x) ≡ true → (b ≡ on_it) × (n ≡ x.node) × (f ≡ (plan_of x.kind).awaited)
   unfolding counts
   no_other b n f c = let t = each _ c in (eqb-true _ _ t.1.1.0, eqb-true _ _ t.0, eqb-true _ _ t.1.0)
 
@@ -76,22 +77,22 @@ run_sound m (c ∷ calls) s = run_sound (call m c).master calls (stays_sound m c
 abbrev of : Kind → (node sends : ℕ) → Exchange
 of kind node sends = record { kind = kind; node = node; sends = sends }
 
-sent_again : (m : Master) (x : Exchange) → sound m ≡ true → m.activity ≡ UnderWay x → x.sends < (plan_of x.kind).total
+sent_again : (m : Master) (x : Exchange) → sound m ≡ true → m.activity ≡ Some x → x.sends < (plan_of x.kind).total
     → timing_out m ≡ given (sent (chosen_after m.chosen x) (again x))
 sent_again m x s e l =
     sym (timeout_expires m s (ap under_way e))
-    ∙ ap (λ (a : Activity). given (expired m.chosen a)) e
+    ∙ ap (λ (a : Option Exchange). given (expired m.chosen a)) e
     ∙ ap given (sym (goes_on m.chosen x l))
 
-still_on : (m : Master) (kind : Kind) (node sends k : ℕ) → sound m ≡ true → m.activity ≡ UnderWay (of kind node sends)
+still_on : (m : Master) (kind : Kind) (node sends k : ℕ) → sound m ≡ true → m.activity ≡ Some (of kind node sends)
     → sends + k ≤ (plan_of kind).total
-    → (run m (replicate k timeout)).activity ≡ UnderWay (of kind node (sends + k))
-still_on m kind node sends zero s e l = e ∙ ap (λ (n : ℕ). UnderWay (of kind node n)) (omega arith)
+    → (run m (replicate k timeout)).activity ≡ Some (of kind node (sends + k))
+still_on m kind node sends zero s e l = e ∙ ap (λ (n : ℕ). Some (of kind node n)) (omega arith)
 still_on m kind node sends (suc k) s e l =
     let next = sent_again m (of kind node sends) s e (omega arith) in
     let under-way = ap (λ (h : MasterAfter). h.master.activity) next in
     still_on (timing_out m).master kind node (sends + 1) k (run_sound m (timeout ∷ []) s) under-way (omega arith)
-    ∙ ap (λ (n : ℕ). UnderWay (of kind node n)) (omega arith)
+    ∙ ap (λ (n : ℕ). Some (of kind node n)) (omega arith)
 
 sends_of : (kind : Kind) (bus : ℕ) → length (buses kind bus) ≡ (plan_of kind).total
 sends_of Poll bus = refl
@@ -137,7 +138,7 @@ after_other chosen x other d = go (eqb x.sends (plan_of x.kind).first)
     go false = refl
 
 expired_other : (chosen : List ℕ) (x : Exchange) (other : ℕ) → other ≢ x.node
-    → chosen_bus (expired chosen (UnderWay x)).next.chosen other ≡ chosen_bus chosen other
+    → chosen_bus (expired chosen (Some x)).next.chosen other ≡ chosen_bus chosen other
 unfolding expired
 expired_other chosen x other d = go (ltb x.sends (plan_of x.kind).total)
   where

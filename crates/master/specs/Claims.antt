@@ -5,8 +5,9 @@ use Rattle.format.specs.Refusals.{value, refused}
 use Rattle.master.specs.declared.Kind.{Kind}
 use Rattle.master.specs.declared.Kind.TheVariants.{Poll, DataBlock, Command}
 use Rattle.master.specs.declared.Exchange.{Exchange}
-use Rattle.master.specs.declared.Activity.TheVariants.{Idle, UnderWay}
+use Rattle.std.specs.Prelude.{None, Some}
 use Rattle.master.specs.declared.Master.{Master}
+use Rattle.format.specs.Refusals.{Returned}
 use Rattle.master.specs.declared.Answer.{Answer}
 use Rattle.master.specs.Masters.{new_master, plan_of, function_sent, chosen_bus, other, switched, sound}
 use Rattle.master.specs.Exchanges.{send, done, gave_up, starting, replying, timing_out, meaning}
@@ -39,11 +40,11 @@ buses Command bus = bus ∷ bus ∷ other bus ∷ []
 -- an exchange that only times out: exactly these sends, then "gave up"; and the other bus is chosen for the node, for no other
 unfoldable pub Unanswered : Type 0
 Unanswered =
-    (master : Master) (kind : Kind) (node : ℕ) → sound master ≡ true → master.activity ≡ Idle → node ≤ 63
+    (master : Master) (kind : Kind) (node : ℕ) → sound master ≡ true → master.activity ≡ None → node ≤ 63
     → let sends : List ℕ = buses kind (chosen_bus master.chosen node) in
     let calls : List Call = start kind node ∷ replicate (length sends) timeout in
     (answers master calls ≡ map (λ bus. value (send bus)) sends ++ value gave_up ∷ [])
-    × (run master calls ≡ record { chosen = switched master.chosen node; activity = Idle })
+    × (run master calls ≡ record { chosen = switched master.chosen node; activity = None })
 
 -- "awaits function 2", "awaits 4", "awaits 4"
 abbrev pub awaits : Kind → ℕ
@@ -56,12 +57,12 @@ awaits Command = 4
 -- refused in between play no part.)
 unfoldable pub Answered : Type 0
 Answered =
-    (master : Master) (kind : Kind) (node timeouts none : ℕ) → sound master ≡ true → master.activity ≡ Idle → node ≤ 63
+    (master : Master) (kind : Kind) (node timeouts none : ℕ) → sound master ≡ true → master.activity ≡ None → node ≤ 63
     → timeouts < length (buses kind (chosen_bus master.chosen node))
     → let calls : List Call = start kind node ∷ replicate timeouts timeout in
     let waiting : Master = run master calls in
     let bus : ℕ = latest none (answers master calls) in
-    let ended : Master = record { chosen = waiting.chosen; activity = Idle } in
+    let ended : Master = record { chosen = waiting.chosen; activity = None } in
     (replying waiting bus node (awaits kind) ≡ record { answer = value done; master = ended })
     × ((b n f : ℕ) → (replying waiting b n f).answer ≡ value done → (b ≡ bus) × (n ≡ node) × (f ≡ awaits kind))
 
@@ -76,24 +77,24 @@ Functions =
 pub record BusesKept : Type 0 where
   pub starts : (master : Master) (kind : Kind) (node : ℕ) → (starting master kind node).master.chosen ≡ master.chosen
   pub replies : (master : Master) (bus node function : ℕ) → (replying master bus node function).master.chosen ≡ master.chosen
-  pub times_out : (master : Master) (exchange : Exchange) (node : ℕ) → master.activity ≡ UnderWay exchange → node ≢ exchange.node
+  pub times_out : (master : Master) (exchange : Exchange) (node : ℕ) → master.activity ≡ Some exchange → node ≢ exchange.node
       → chosen_bus (timing_out master).master.chosen node ≡ chosen_bus master.chosen node
 
 -- after any calls on a master that had no exchange, the bus of the latest send is the bus chosen for the node
 unfoldable pub LatestSend : Type 0
 LatestSend =
-    (master : Master) (calls : List Call) (none : ℕ) (exchange : Exchange) → master.activity ≡ Idle
-    → (run master calls).activity ≡ UnderWay exchange
+    (master : Master) (calls : List Call) (none : ℕ) (exchange : Exchange) → master.activity ≡ None
+    → (run master calls).activity ≡ Some exchange
     → chosen_bus (run master calls).chosen exchange.node ≡ latest none (answers master calls)
 
 -- after such calls a reply on another bus than that of the latest send ends no exchange: it is not "done", and changes nothing
 unfoldable pub LateReply : Type 0
 LateReply =
-    (master : Master) (calls : List Call) (bus node function none : ℕ) → master.activity ≡ Idle
+    (master : Master) (calls : List Call) (bus node function none : ℕ) → master.activity ≡ None
     → bus ≢ latest none (answers master calls)
     → ((replying (run master calls) bus node function).answer ≢ value done)
     × ((replying (run master calls) bus node function).master ≡ run master calls)
 
 -- an answer's meaning leaves no doubt which answer it is, so a contract that is an equation with `meaning` determines the answer
 unfoldable pub OneAnswer : Type 0
-OneAnswer = (a b : Answer) → meaning a ≡ meaning b → a ≡ b
+OneAnswer = (a b : Returned Answer) → meaning a ≡ meaning b → a ≡ b

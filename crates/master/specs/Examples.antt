@@ -4,7 +4,7 @@ use Rattle.std.specs.Prelude.{ℕ, ◌≡◌, true, false, List, [], ◌∷◌, 
 use Rattle.format.specs.Refusals.{value, refused}
 use Rattle.master.specs.declared.Kind.{Kind}
 use Rattle.master.specs.declared.Kind.TheVariants.{Poll, DataBlock, Command}
-use Rattle.master.specs.declared.Activity.TheVariants.{Idle, UnderWay}
+use Rattle.std.specs.Prelude.{None, Some}
 use Rattle.master.specs.declared.Master.{Master}
 use Rattle.master.specs.Masters.{new_master, chosen_bus, sound}
 use Rattle.master.specs.Exchanges.{send, done, gave_up}
@@ -12,10 +12,10 @@ use Rattle.master.specs.Runs.{Call, start, reply, timeout, answers, run}
 
 -- a master with these chosen buses; and with bus A for every node and an exchange
 abbrev choosing : List ℕ → Master
-choosing buses = record { chosen = buses; activity = Idle }
+choosing buses = record { chosen = buses; activity = None }
 
 abbrev waiting : Kind → (node sends : ℕ) → Master
-waiting kind node sends = record { chosen = replicate 64 0; activity = UnderWay (record { kind = kind; node = node; sends = sends }) }
+waiting kind node sends = record { chosen = replicate 64 0; activity = Some (record { kind = kind; node = node; sends = sends }) }
 
 -- "Command to node 22 chosen A, two timeouts: third send on B. A reply on A then is NOTAWAITED; on B it is done, B chosen."
 abbrev to_node22 : List Call

@@ -10,11 +10,14 @@ use Rattle.format.specs.Refusals.{Result, value, refused, number, check, guarded
 use Rattle.format.specs.Tests.{all_true}
 use Rattle.master.specs.declared.Kind.{Kind}
 use Rattle.master.specs.declared.Exchange.{Exchange}
-use Rattle.master.specs.declared.Activity.{Activity}
-use Rattle.master.specs.declared.Activity.TheVariants.{Idle, UnderWay}
+use Rattle.std.specs.Prelude.{Option}
+use Rattle.master.specs.declared.Exchange.{Exchange}
+use Rattle.std.specs.Prelude.{None, Some}
 use Rattle.master.specs.declared.Master.{Master}
+use Rattle.format.specs.Refusals.{Returned}
 use Rattle.master.specs.declared.Answer.{Answer}
 use Rattle.master.specs.declared.Answer.TheVariants as answered
+use Rattle.std.specs.Prelude.{Ok, Err}
 use Rattle.master.specs.declared.Moved.{Moved}
 use Rattle.master.specs.Masters.{plan_of, chosen_bus, switched, sound}
 
@@ -42,18 +45,18 @@ abbrev pub handed_back : Master → Result Step → MasterAfter
 handed_back master (value step) = given step
 handed_back master (refused n) = record { answer = refused n; master = master }
 
-abbrev pub under_way : Activity → Bool
-under_way Idle = false
-under_way (UnderWay exchange) = true
+abbrev pub under_way : Option Exchange → Bool
+under_way None = false
+under_way (Some exchange) = true
 
 -- an exchange goes out, or goes out again: send on the bus chosen for its node
 abbrev pub sent : List ℕ → Exchange → Step
 sent chosen exchange =
-    record { told = send (chosen_bus chosen exchange.node); next = record { chosen = chosen; activity = UnderWay exchange } }
+    record { told = send (chosen_bus chosen exchange.node); next = record { chosen = chosen; activity = Some exchange } }
 
 -- an exchange ends
 abbrev pub exchange_ended : Told → List ℕ → Step
-exchange_ended told chosen = record { told = told; next = record { chosen = chosen; activity = Idle } }
+exchange_ended told chosen = record { told = told; next = record { chosen = chosen; activity = None } }
 
 -- BUSY: start during an exchange
 unfoldable pub starting : Master → Kind → ℕ → MasterAfter
@@ -67,9 +70,9 @@ starting master kind node =
     (sent master.chosen (record { kind = kind; node = node; sends = 1 })))
 
 -- from that node, with that function, on the bus of the latest send
-unfoldable pub counts : List ℕ → ℕ → ℕ → ℕ → Activity → Bool
-counts chosen bus node function Idle = false
-counts chosen bus node function (UnderWay exchange) =
+unfoldable pub counts : List ℕ → ℕ → ℕ → ℕ → Option Exchange → Bool
+counts chosen bus node function None = false
+counts chosen bus node function (Some exchange) =
     all_true
     (eqb node exchange.node
     ∷ eqb function (plan_of exchange.kind).awaited
@@ -98,9 +101,9 @@ abbrev pub again : Exchange → Exchange
 again exchange = record { kind = exchange.kind; node = exchange.node; sends = exchange.sends + 1 }
 
 -- the next send, or, with the sends used up, gives up; the case Idle is never used, as IDLE is refused first
-unfoldable pub expired : List ℕ → Activity → Step
-expired chosen Idle = exchange_ended gave_up chosen
-expired chosen (UnderWay exchange) =
+unfoldable pub expired : List ℕ → Option Exchange → Step
+expired chosen None = exchange_ended gave_up chosen
+expired chosen (Some exchange) =
     cond (ltb exchange.sends (plan_of exchange.kind).total)
     (sent (chosen_after chosen exchange) (again exchange))
     (exchange_ended gave_up (chosen_after chosen exchange))
@@ -113,11 +116,11 @@ timing_out master =
     (expired master.chosen master.activity))
 
 -- what the code's answer says
-abbrev pub meaning : Answer → Result Told
-meaning (answered.Send bus) = value (send bus)
-meaning answered.Done = value done
-meaning answered.GaveUp = value gave_up
-meaning (answered.Refused name) = refused (number name)
+abbrev pub meaning : Returned Answer → Result Told
+meaning (Ok (answered.Send bus)) = value (send bus)
+meaning (Ok answered.Done) = value done
+meaning (Ok answered.GaveUp) = value gave_up
+meaning (Err name) = refused (number name)
 
 -- what the code hands back says
 abbrev pub master_after : Moved → MasterAfter

@@ -7,12 +7,13 @@ use Rattle.format.specs.Tests.{all_true}
 use Rattle.master.specs.declared.Kind.{Kind}
 use Rattle.master.specs.declared.Kind.TheVariants.{Poll, DataBlock, Command}
 use Rattle.master.specs.declared.Plan.{Plan}
-use Rattle.master.specs.declared.Activity.{Activity}
-use Rattle.master.specs.declared.Activity.TheVariants.{Idle, UnderWay}
+use Rattle.std.specs.Prelude.{Option}
+use Rattle.master.specs.declared.Exchange.{Exchange}
+use Rattle.std.specs.Prelude.{None, Some}
 use Rattle.master.specs.declared.Master.{Master}
 
 abbrev pub new_master : Master
-new_master = record { chosen = replicate 64 0; activity = Idle }
+new_master = record { chosen = replicate 64 0; activity = None }
 
 -- how an exchange of a kind goes: the sends on the first bus, that chosen at the start; all its sends; the function awaited
 abbrev pub plan_of : Kind → Plan
@@ -47,9 +48,9 @@ buses_in_range (bus ∷ buses) = all_true (leb bus 1 ∷ buses_in_range buses �
 unfoldable pub chosen_sound : List ℕ → Bool
 chosen_sound chosen = all_true (eqb (length chosen) 64 ∷ buses_in_range chosen ∷ [])
 
-unfoldable pub exchange_sound : Activity → Bool
-exchange_sound Idle = true
-exchange_sound (UnderWay exchange) =
+unfoldable pub exchange_sound : Option Exchange → Bool
+exchange_sound None = true
+exchange_sound (Some exchange) =
     all_true (leb exchange.node 63 ∷ leb 1 exchange.sends ∷ leb exchange.sends (plan_of exchange.kind).total ∷ [])
 
 unfoldable pub sound : Master → Bool

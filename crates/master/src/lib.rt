@@ -3,8 +3,6 @@
 #![tactic(auto)]
 
 ghost use Rattle.std.specs.Prelude.{◌≡◌, ◌≤◌};
-ghost use Rattle.master.specs.declared.Activity.TheVariants.{Idle, UnderWay};
-ghost use Rattle.master.specs.declared.Answer.TheVariants as answered;
 ghost use Rattle.master.specs.Masters.{new_master, plan_of, function_sent, other, chosen_sound, exchange_sound, sound};
 ghost use Rattle.master.specs.Exchanges as exchanges;
 ghost use Rattle.master.specs.Claims as claims;
@@ -41,33 +39,26 @@ pub struct Exchange {
     pub sends: u8,
 }
 
-#[derive(Clone, Copy)]
-pub enum Activity {
-    Idle,
-    UnderWay(Exchange),
-}
-
 // The bus chosen for each node, 0 for A and 1 for B, and the exchange under way, if any.
 #[derive(Clone, Copy)]
 pub struct Master {
     pub chosen: [u8; 64],
-    pub activity: Activity,
+    pub activity: Option<Exchange>,
 }
 
-// What a call answers: send on this bus, done, gave up, or a refusal.
+// What a call answers that is not refused: send on this bus, done or gave up.
 #[derive(Clone, Copy)]
 pub enum Answer {
     Send(u8),
     Done,
     GaveUp,
-    Refused(Refusal),
 }
 
 // What a call hands back: the next master, and the answer.
 #[derive(Clone, Copy)]
 pub struct Moved {
     pub master: Master,
-    pub answer: Answer,
+    pub answer: Result<Answer, Refusal>,
 }
 
 // How an exchange of a kind goes: how often it is sent on the bus that is chosen at its start, how
@@ -115,12 +106,12 @@ fn chosen_sound(chosen: [u8; 64]) -> bool
 }
 
 #[tactic(auto, unfolding(crate::specs::Masters::exchange_sound, format::specs::Tests::all_true))]
-fn exchange_sound(activity: Activity) -> bool
+fn exchange_sound(activity: Option<Exchange>) -> bool
     ensures { result ≡ exchange_sound activity }
 {
     match activity {
-        Activity::Idle => true,
-        Activity::UnderWay(exchange) => {
+        None => true,
+        Some(exchange) => {
             let kind = exchange.kind;
             let plan = plan_of(kind);
             (exchange.node <= 63) & (exchange.sends >= 1) & (exchange.sends <= plan.total)
@@ -137,21 +128,21 @@ fn is_sound(master: Master) -> bool
     chosen_sound(chosen) & exchange_sound(activity)
 }
 
-fn is_under_way(activity: Activity) -> bool
+fn is_under_way(activity: Option<Exchange>) -> bool
     ensures { result ≡ exchanges.under_way activity }
 {
     match activity {
-        Activity::Idle => false,
-        Activity::UnderWay(_) => true,
+        None => false,
+        Some(_) => true,
     }
 }
 
 fn refuse(master: Master, name: Refusal) -> Moved
-    ensures { result ≡ record { master = master; answer = answered.Refused name } }
+    ensures { result ≡ record { master = master; answer = Err name } }
 {
     Moved {
         master: master,
-        answer: Answer::Refused(name),
+        answer: Err(name),
     }
 }
 
@@ -166,20 +157,20 @@ fn send(chosen: [u8; 64], exchange: Exchange) -> Moved
     Moved {
         master: Master {
             chosen: chosen,
-            activity: Activity::UnderWay(exchange),
+            activity: Some(exchange),
         },
-        answer: Answer::Send(bus),
+        answer: Ok(Answer::Send(bus)),
     }
 }
 
 // The exchange ends.
-fn end(chosen: [u8; 64], answer: Answer) -> Moved
-    ensures { result ≡ record { master = record { chosen = chosen; activity = Idle }; answer = answer } }
+fn end(chosen: [u8; 64], answer: Result<Answer, Refusal>) -> Moved
+    ensures { result ≡ record { master = record { chosen = chosen; activity = None }; answer = answer } }
 {
     Moved {
         master: Master {
             chosen: chosen,
-            activity: Activity::Idle,
+            activity: None,
         },
         answer: answer,
     }
@@ -213,7 +204,7 @@ fn chosen_after(mut chosen: [u8; 64], exchange: Exchange) -> [u8; 64]
 // A timeout of an exchange under way: sent again, or given up.
 fn expire(chosen: [u8; 64], exchange: Exchange) -> Moved
     requires { exchange.node ≤ 63 }
-    ensures { exchanges.master_after result ≡ exchanges.given (exchanges.expired chosen (UnderWay exchange)) }
+    ensures { exchanges.master_after result ≡ exchanges.given (exchanges.expired chosen (Some exchange)) }
 {
     let next = chosen_after(chosen, exchange);
     let kind = exchange.kind;
@@ -226,7 +217,7 @@ fn expire(chosen: [u8; 64], exchange: Exchange) -> Moved
         };
         return send(next, again);
     }
-    end(next, Answer::GaveUp)
+    end(next, Ok(Answer::GaveUp))
 }
 
 // Whether a reply is the one awaited: from the node, with the function, on the bus of the latest
@@ -234,7 +225,7 @@ fn expire(chosen: [u8; 64], exchange: Exchange) -> Moved
 #[tactic(auto, unfolding(crate::specs::Exchanges::counts, crate::specs::Masters::chosen_bus, format::specs::Tests::all_true))]
 fn counts(chosen: [u8; 64], exchange: Exchange, bus: u8, node: u8, function: u8) -> bool
     requires { exchange.node ≤ 63 }
-    ensures { result ≡ exchanges.counts chosen bus node function (UnderWay exchange) }
+    ensures { result ≡ exchanges.counts chosen bus node function (Some exchange) }
 {
     let kind = exchange.kind;
     let plan = plan_of(kind);
@@ -249,7 +240,7 @@ impl Master {
         ensures { result ≡ new_master }
     {
         let chosen = [0; 64];
-        let activity = Activity::Idle;
+        let activity = None;
         Master { chosen, activity }
     }
 
@@ -292,12 +283,12 @@ impl Master {
             return refuse(self, Refusal::Field);
         }
         match activity {
-            Activity::Idle => refuse(self, Refusal::Idle),
-            Activity::UnderWay(exchange) => {
+            None => refuse(self, Refusal::Idle),
+            Some(exchange) => {
                 if !counts(chosen, exchange, bus, node, function) {
                     return refuse(self, Refusal::NotAwaited);
                 }
-                end(chosen, Answer::Done)
+                end(chosen, Ok(Answer::Done))
             }
         }
     }
@@ -312,8 +303,8 @@ impl Master {
             return refuse(self, Refusal::State);
         }
         match activity {
-            Activity::Idle => refuse(self, Refusal::Idle),
-            Activity::UnderWay(exchange) => expire(chosen, exchange),
+            None => refuse(self, Refusal::Idle),
+            Some(exchange) => expire(chosen, exchange),
         }
     }
 }

@@ -14,8 +14,9 @@ use Rattle.format.proofs.Tests.{each, from_each}
 use Rattle.master.specs.declared.Kind.{Kind}
 use Rattle.master.specs.declared.Kind.TheVariants.{Poll, DataBlock, Command}
 use Rattle.master.specs.declared.Exchange.{Exchange}
-use Rattle.master.specs.declared.Activity.{Activity}
-use Rattle.master.specs.declared.Activity.TheVariants.{Idle, UnderWay}
+use Rattle.std.specs.Prelude.{Option}
+use Rattle.master.specs.declared.Exchange.{Exchange}
+use Rattle.std.specs.Prelude.{None, Some}
 use Rattle.master.specs.declared.Master.{Master}
 use Rattle.master.specs.declared.Moved.{Moved}
 use Rattle.master.specs.Masters.{new_master}
@@ -46,16 +47,16 @@ is_written Command node sends = refl
 abbrev OfBytes : {A : Type 0} → (ℕ → ℕ → ℕ → A) → List ℕ → A
 OfBytes f bytes = f (get_or bytes 0 0) (get_or bytes 1 0) (get_or bytes 2 0)
 
-activity_back : (activity : Activity) → (OfBytes activity_of (last_bytes activity) ≡ activity) × (OfBytes activity_written (last_bytes activity) ≡ true)
+activity_back : (activity : Option Exchange) → (OfBytes activity_of (last_bytes activity) ≡ activity) × (OfBytes activity_written (last_bytes activity) ≡ true)
 unfolding activity_written all_true
-activity_back Idle = (refl, refl)
-activity_back (UnderWay exchange) =
+activity_back None = (refl, refl)
+activity_back (Some exchange) =
     let k = kind_back exchange.kind in
     (rw (k.0, k.1), is_written exchange.kind exchange.node exchange.sends)
 
-laid_out_lem : (activity : Activity) → get_or (last_bytes activity) 3 0 ≡ layout_number
-laid_out_lem Idle = refl
-laid_out_lem (UnderWay exchange) = refl
+laid_out_lem : (activity : Option Exchange) → get_or (last_bytes activity) 3 0 ≡ layout_number
+laid_out_lem None = refl
+laid_out_lem (Some exchange) = refl
 
 kind_again : (kind : ℕ) → 1 ≤ kind → kind ≤ 3 → kind_number (kind_of kind) ≡ kind
 kind_again kind low high = go (eqb kind 1) (eqb kind 2) refl refl
@@ -73,7 +74,7 @@ activity_again kind node sends = go (eqb kind 0) refl
     exchange = record { kind = kind_of kind; node = node; sends = sends }
 
     go : (b : Bool) → eqb kind 0 ≡ b → cond b (all_true (eqb node 0 ∷ eqb sends 0 ∷ [])) (leb kind 3) ≡ true
-        → activity_bytes (cond b Idle (UnderWay exchange)) ≡ kind ∷ node ∷ sends ∷ []
+        → activity_bytes (cond b None (Some exchange)) ≡ kind ∷ node ∷ sends ∷ []
     go true e w =
         let tests = each (eqb node 0 ∷ eqb sends 0 ∷ []) w in
         rw (eqb-true kind 0 e, eqb-true node 0 tests.0, eqb-true sends 0 tests.1.0)

@@ -7,17 +7,18 @@ use borrow.Author.Tests.{eqb-true}
 use lib.ListN.{length}
 use Rattle.format.specs.Refusals.{guarded}
 use Rattle.format.proofs.Tests.{each}
-use Rattle.master.specs.declared.Activity.{Activity}
-use Rattle.master.specs.declared.Activity.TheVariants.{Idle, UnderWay}
+use Rattle.std.specs.Prelude.{Option}
+use Rattle.master.specs.declared.Exchange.{Exchange}
+use Rattle.std.specs.Prelude.{None, Some}
 use Rattle.master.specs.declared.Master.{Master}
 use Rattle.master.specs.Masters.{sound}
 use Rattle.master.specs.Exchanges as exchanges
 use Rattle.master_bytes.specs.States.{last_bytes, kind_of, is_state}
 use Rattle.master_bytes.specs.Calls.{moved_in_bytes, not_state, on_state, is_kind, kind_handed_in, starting_as}
 
-pub four : (activity : Activity) → length (last_bytes activity) ≡ 4
-four Idle = refl
-four (UnderWay exchange) = refl
+pub four : (activity : Option Exchange) → length (last_bytes activity) ≡ 4
+four None = refl
+four (Some exchange) = refl
 
 module _ (state : List ℕ) where
   pub sized : is_state state ≡ true → length state ≡ 68

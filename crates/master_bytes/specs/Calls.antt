@@ -3,12 +3,13 @@
 -- refuses a master that is not sound; bytes that no master writes are refused likewise, before all else, and stay.
 use Rattle.std.specs.Prelude.{ℕ, Bool, cond, List, [], ◌∷◌, leb, eqb, length}
 use Rattle.format.specs.declared.Refusal.TheVariants.{Field, State}
-use Rattle.format.specs.declared.Outcome.{Outcome}
+use Rattle.format.specs.Refusals.{Returned}
 use Rattle.format.specs.Refusals as refusals
 use Rattle.format.specs.Refusals.{Result, value, refused, number, check, guarded}
 use Rattle.format.specs.Tests.{all_true}
 use Rattle.master.specs.declared.Kind.{Kind}
 use Rattle.master.specs.declared.Master.{Master}
+use Rattle.format.specs.Refusals.{Returned}
 use Rattle.master.specs.declared.Answer.{Answer}
 use Rattle.master.specs.Masters.{new_master, sound}
 use Rattle.master.specs.Exchanges as exchanges
@@ -56,8 +57,8 @@ unfoldable pub timing_out : List ℕ → MasterBytesAfter exchanges.Told
 timing_out state = on_state state (exchanges.timing_out (master_in state))
 
 -- what the code's answer says, and the bytes afterwards
-abbrev pub renew_after : Outcome → List ℕ → MasterBytesAfter ℕ
+abbrev pub renew_after : Returned ℕ → List ℕ → MasterBytesAfter ℕ
 renew_after r state = record { answer = refusals.meaning r; state = state }
 
-abbrev pub master_bytes_after : Answer → List ℕ → MasterBytesAfter exchanges.Told
+abbrev pub master_bytes_after : Returned Answer → List ℕ → MasterBytesAfter exchanges.Told
 master_bytes_after r state = record { answer = exchanges.meaning r; state = state }

@@ -2,7 +2,7 @@
 use Rattle.std.specs.Prelude.{ℕ, ◌≡◌, ◌≢◌, true, List, map, length}
 use Rattle.format.specs.Refusals.{value, refused}
 use Rattle.master.specs.declared.Master.{Master}
-use Rattle.master.specs.declared.Activity.TheVariants.{Idle}
+use Rattle.std.specs.Prelude.{None}
 use Rattle.master.specs.Masters.{sound}
 use Rattle.master.specs.Exchanges.{Told, done}
 use Rattle.master.specs.Runs.{answers, run, latest}
@@ -54,7 +54,7 @@ AsRun =
 -- latest send is not "done", and leaves every byte
 unfoldable pub LateReplyOnBytes : Type 0
 LateReplyOnBytes =
-    (master : Master) → sound master ≡ true → master.activity ≡ Idle → (calls : List BytesCall) (givens : List (MasterBytesAfter Told))
+    (master : Master) → sound master ≡ true → master.activity ≡ None → (calls : List BytesCall) (givens : List (MasterBytesAfter Told))
     → Chained (state_bytes master) calls givens
     → (bus node function none : ℕ) → bus ≢ latest none (answers_given givens)
     → let last = last_of (state_bytes master) givens in

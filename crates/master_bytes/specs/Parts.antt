@@ -1,9 +1,9 @@
 -- For `hand_back`: what a call on the master refuses leaves the master that the bytes are.
 use Rattle.std.specs.Prelude.{ℕ, ◌≡◌, List}
 use Rattle.format.specs.declared.Refusal.{Refusal}
-use Rattle.master.specs.declared.Answer.TheVariants.{Refused}
+use Rattle.std.specs.Prelude.{Err}
 use Rattle.master.specs.declared.Moved.{Moved}
 use Rattle.master_bytes.specs.States.{state_bytes}
 
 unfoldable pub RefusedIsThere : List ℕ → Moved → Type 0
-RefusedIsThere state moved = (name : Refusal) → moved.answer ≡ Refused name → state_bytes moved.master ≡ state
+RefusedIsThere state moved = (name : Refusal) → moved.answer ≡ Err name → state_bytes moved.master ≡ state

@@ -7,8 +7,9 @@ use Rattle.std.specs.Prelude.{ℕ, Bool, cond, List, [], ◌∷◌, ◌++◌, le
 use Rattle.format.specs.Tests.{all_true}
 use Rattle.master.specs.declared.Kind.{Kind}
 use Rattle.master.specs.declared.Kind.TheVariants.{Poll, DataBlock, Command}
-use Rattle.master.specs.declared.Activity.{Activity}
-use Rattle.master.specs.declared.Activity.TheVariants.{Idle, UnderWay}
+use Rattle.std.specs.Prelude.{Option}
+use Rattle.master.specs.declared.Exchange.{Exchange}
+use Rattle.std.specs.Prelude.{None, Some}
 use Rattle.master.specs.declared.Master.{Master}
 
 -- ---- the bytes of a master
@@ -18,15 +19,15 @@ kind_number Poll = 1
 kind_number DataBlock = 2
 kind_number Command = 3
 
-abbrev pub activity_bytes : Activity → List ℕ
-activity_bytes Idle = 0 ∷ 0 ∷ 0 ∷ []
-activity_bytes (UnderWay exchange) = kind_number exchange.kind ∷ exchange.node ∷ exchange.sends ∷ []
+abbrev pub activity_bytes : Option Exchange → List ℕ
+activity_bytes None = 0 ∷ 0 ∷ 0 ∷ []
+activity_bytes (Some exchange) = kind_number exchange.kind ∷ exchange.node ∷ exchange.sends ∷ []
 
 -- a release that writes other bytes for a master gives them another number
 abbrev pub layout_number : ℕ
 layout_number = 1
 
-abbrev pub last_bytes : Activity → List ℕ
+abbrev pub last_bytes : Option Exchange → List ℕ
 last_bytes activity = activity_bytes activity ++ (layout_number ∷ [])
 
 unfoldable pub state_bytes : Master → List ℕ
@@ -38,8 +39,8 @@ state_bytes master = master.chosen ++ last_bytes master.activity
 abbrev pub kind_of : ℕ → Kind
 kind_of n = cond (eqb n 1) Poll (cond (eqb n 2) DataBlock Command)
 
-abbrev pub activity_of : (kind node sends : ℕ) → Activity
-activity_of kind node sends = cond (eqb kind 0) Idle (UnderWay (record { kind = kind_of kind; node = node; sends = sends }))
+abbrev pub activity_of : (kind node sends : ℕ) → Option Exchange
+activity_of kind node sends = cond (eqb kind 0) None (Some (record { kind = kind_of kind; node = node; sends = sends }))
 
 unfoldable pub master_in : List ℕ → Master
 master_in state =

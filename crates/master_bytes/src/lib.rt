@@ -11,8 +11,8 @@ ghost use Rattle.master_bytes.specs.Claims as claims;
 ghost use Rattle.master_bytes.specs.Examples.{Examples};
 
 use copying::copy_in;
-use format::{Outcome, Refusal};
-use master::{Activity, Answer, Exchange, Kind, Master, Moved};
+use format::Refusal;
+use master::{Answer, Exchange, Kind, Master, Moved};
 
 // The bytes of a state, and the number of their layout, which is the last of them.
 #[derive(Drop)]
@@ -45,18 +45,18 @@ fn kind_of(number: u8) -> Kind
     Kind::Command
 }
 
-fn activity_of(kind: u8, node: u8, sends: u8) -> Activity
+fn activity_of(kind: u8, node: u8, sends: u8) -> Option<Exchange>
     ensures { result ≡ activity_of kind node sends }
 {
     if kind == 0 {
-        return Activity::Idle;
+        return None;
     }
     let exchange = Exchange {
         kind: kind_of(kind),
         node: node,
         sends: sends,
     };
-    Activity::UnderWay(exchange)
+    Some(exchange)
 }
 
 // Whether a master writes these three bytes.
@@ -81,12 +81,12 @@ fn kind_number(kind: Kind) -> u8
 }
 
 // The bytes behind those of the buses: the exchange's, and the layout's number.
-fn last_bytes(activity: Activity) -> [u8; 4]
+fn last_bytes(activity: Option<Exchange>) -> [u8; 4]
     ensures { result ≡ last_bytes activity }
 {
     match activity {
-        Activity::Idle => [0, 0, 0, State::LAYOUT],
-        Activity::UnderWay(exchange) => {
+        None => [0, 0, 0, State::LAYOUT],
+        Some(exchange) => {
             let kind = exchange.kind;
             [
                 kind_number(kind),
@@ -138,14 +138,14 @@ fn load(state: &[u8]) -> Master
 // Answers as a call does, and writes the master that it hands back; of a refusal, whose master is in the bytes
 // already, nothing is stored.
 #[tactic(auto, unfolding(crate::specs::Parts::RefusedIsThere))]
-fn hand_back(state: &mut [u8], moved: Moved) -> Answer
+fn hand_back(state: &mut [u8], moved: Moved) -> Result<Answer, Refusal>
     requires state_len { length state.old ≡ 68 }
     requires refused_is_there { RefusedIsThere state.old moved }
     ensures { calls.master_bytes_after result state.new ≡ calls.moved_in_bytes (exchanges.master_after moved) }
 {
     let answer = moved.answer;
     let master = moved.master;
-    if let Answer::Refused(_) = answer {
+    if let Err(_) = answer {
         return answer;
     }
     put(state, master);
@@ -154,14 +154,14 @@ fn hand_back(state: &mut [u8], moved: Moved) -> Answer
 
 // Makes the bytes a new master's: bus A chosen for every node, no exchange. Answers 0, or refuses: STATE.
 #[tactic(auto, unfolding(crate::specs::Calls::renew))]
-pub fn new(state: &mut [u8]) -> Outcome
+pub fn new(state: &mut [u8]) -> Result<usize, Refusal>
     ensures { calls.renew_after result state.new ≡ calls.renew state.old }
 {
     if state.len() != State::SIZE {
-        return Outcome::Refused(Refusal::State);
+        return Err(Refusal::State);
     }
     put(state, Master::new());
-    Outcome::Value(0)
+    Ok(0)
 }
 
 // The node to ask for. For a kind that is none it is no node either, and so refused: after STATE, before BUSY.
@@ -176,33 +176,33 @@ fn node_for(kind: u8, node: u8) -> u8
 }
 
 // Starts an exchange of a kind, 1 to 3, with a node, or refuses: STATE, FIELD, BUSY.
-pub fn start(state: &mut [u8], kind: u8, node: u8) -> Answer
+pub fn start(state: &mut [u8], kind: u8, node: u8) -> Result<Answer, Refusal>
     ensures { calls.master_bytes_after result state.new ≡ calls.starting state.old kind node }
 {
     if !is_state(state) {
-        return Answer::Refused(Refusal::State);
+        return Err(Refusal::State);
     }
     let moved = load(state).start(kind_of(kind), node_for(kind, node));
     hand_back(state, moved)
 }
 
 // A reply has come in: done if it is the one awaited, else refused: STATE, FIELD, IDLE, NOTAWAITED.
-pub fn reply(state: &mut [u8], bus: u8, node: u8, function: u8) -> Answer
+pub fn reply(state: &mut [u8], bus: u8, node: u8, function: u8) -> Result<Answer, Refusal>
     ensures { calls.master_bytes_after result state.new ≡ calls.replying state.old bus node function }
 {
     if !is_state(state) {
-        return Answer::Refused(Refusal::State);
+        return Err(Refusal::State);
     }
     let moved = load(state).reply(bus, node, function);
     hand_back(state, moved)
 }
 
 // No reply came in time: answers the bus to send on again, or gave up, or refuses: STATE, IDLE.
-pub fn timeout(state: &mut [u8]) -> Answer
+pub fn timeout(state: &mut [u8]) -> Result<Answer, Refusal>
     ensures { calls.master_bytes_after result state.new ≡ calls.timing_out state.old }
 {
     if !is_state(state) {
-        return Answer::Refused(Refusal::State);
+        return Err(Refusal::State);
     }
     let moved = load(state).timeout();
     hand_back(state, moved)

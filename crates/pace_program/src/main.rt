@@ -8,7 +8,7 @@
 ghost use Rattle.std.specs.Prelude.{◌≡◌, true, ◌+◌, ◌*◌, ◌≤◌, length};
 ghost use Rattle.format.specs.Formats.{format_of, in_range};
 
-use format::{Fields, Format};
+use format::{Fields, Format, Refusal};
 use slot::Key;
 use station::Station;
 use std::io::{Input, Print, Read};
@@ -60,17 +60,17 @@ fn opened(format: Format, count: u8) -> Station {
 }
 
 // The packets that an answer tells of.
-fn packets(answer: Answer) -> u64
+fn packets(answer: Result<Answer, Refusal>) -> u64
     ensures { result ≤ 1 }
 {
     match answer {
-        Answer::Packet {
+        Ok(Answer::Packet {
             length: _,
             broke: _,
-        } => 1,
-        Answer::Kept { broke: _ } => 0,
-        Answer::Filtered => 0,
-        Answer::Refused(_) => 0,
+        }) => 1,
+        Ok(Answer::Kept { broke: _ }) => 0,
+        Ok(Answer::Filtered) => 0,
+        Err(_) => 0,
     }
 }
 

@@ -11,8 +11,8 @@ use borrow.Author.Tests.{leb-true, leb-false, le-leb, lt-leb, lt-ltb, le-ltb}
 use Rattle.format.specs.declared.Fields.{Fields}
 use Rattle.format.specs.declared.Format.{Format}
 use Rattle.format.specs.declared.Flag.{Flag}
-use Rattle.format.specs.declared.Outcome.{Outcome}
-use Rattle.format.specs.declared.Outcome.TheVariants.{Refused}
+use Rattle.format.specs.Refusals.{Returned}
+use Rattle.std.specs.Prelude.{Err}
 use Rattle.format.specs.declared.Refusal.{Refusal}
 use Rattle.format.specs.declared.Refusal.TheVariants.{Field, Size, Index}
 use Rattle.format.specs.Formats.{packet_limit, piece_size, number_range, format_of, in_range}
@@ -36,7 +36,7 @@ bytes_small z packet k small = go (leb (length packet) 8) refl
     go false e = rw (bytes_several z packet k (leb-false (length packet) 8 e), length-take) (omega arith)
 
 -- the answer and the output of sending, as the contract has them
-abbrev Sent : Fields → List ℕ → ℕ → List ℕ → Outcome → List ℕ → Type 0
+abbrev Sent : Fields → List ℕ → ℕ → List ℕ → Returned ℕ → List ℕ → Type 0
 Sent fields packet k output r last = Writes (send fields packet k (length output)) output (meaning r) last
 
 -- what the code knows once the packet fits its format: z is the piece size
@@ -60,15 +60,15 @@ sizes {format} s =
     (omega (arith, some_bytes format), omega (arith, eight_bytes format), omega (arith, most_bytes format))
 
 module _ (fields : Fields) (packet : List ℕ) (k : ℕ) (output : List ℕ) where
-  as_refused : (name : Refusal) → refused (number name) ≡ send fields packet k (length output) → Sent fields packet k output (Refused name) output
+  as_refused : (name : Refusal) → refused (number name) ≡ send fields packet k (length output) → Sent fields packet k output (Err name) output
   as_refused name e = not_written _ output (number name) e
 
-  pub bad_field : in_range fields ≡ false → Sent fields packet k output (Refused Field) output
+  pub bad_field : in_range fields ≡ false → Sent fields packet k output (Err Field) output
   unfolding send
   bad_field h = as_refused Field (stop_then Field _ _ h)
 
   pub bad_size : in_range fields ≡ true → (format : Format) → format ≡ format_of fields → packet_limit format < length packet
-      → Sent fields packet k output (Refused Size) output
+      → Sent fields packet k output (Err Size) output
   unfolding send
   bad_size r format e h =
       let m : packet_limit (format_of fields) < length packet = rw (← e) h in
@@ -78,7 +78,7 @@ module _ (fields : Fields) (packet : List ℕ) (k : ℕ) (output : List ℕ) whe
     within-limit : leb (length packet) (packet_limit (format_of fields)) ≡ true
     within-limit = let m : length packet ≤ packet_limit (format_of fields) = rw (← s.of_format) s.within in le-leb _ _ m
 
-    pub bad-index : count ≤ k → Sent fields packet k output (Refused Index) output
+    pub bad-index : count ≤ k → Sent fields packet k output (Err Index) output
     unfolding send
     bad-index h =
         let m : count_of (piece_size (format_of fields)) (length packet) ≤ k = rw (← s.of_format, ← s.size, ← ec) h in
@@ -102,7 +102,7 @@ module _ {fields : Fields} {packet : List ℕ} {k : ℕ} {format : Format} {z co
   unfolding piece
   is_piece = let s = i.sized in rw (eg, en, eb, i.counted, s.size, s.of_format)
 
-  pub whole : (output : List ℕ) (r : Outcome) (last : List ℕ)
+  pub whole : (output : List ℕ) (r : Returned ℕ) (last : List ℕ)
       → Writes (fitting (image_of (frame_with fields flag n bytes)) (length output)) output (meaning r) last → Sent fields packet k output r last
   whole output r last p =
       let e = is-fitting fields packet k output format z i.sized count i.counted i.index in

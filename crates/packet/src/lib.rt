@@ -14,7 +14,7 @@ ghost use Rattle.packet.specs.Claims.{Splitting};
 ghost use Rattle.packet.specs.Examples.{ExamplesHold};
 ghost use Rattle.packet.specs.Bounds.{SendingBounds};
 
-use format::{Fields, Flag, Format, Outcome, Refusal};
+use format::{Fields, Flag, Format, Refusal};
 
 // The number of pieces, over the piece size z.
 fn count_of(z: usize, n: usize) -> usize
@@ -28,15 +28,15 @@ fn count_of(z: usize, n: usize) -> usize
 }
 
 // The number of pieces of a packet of that size, or SIZE.
-pub fn piece_count(format: Format, size: usize) -> Outcome
+pub fn piece_count(format: Format, size: usize) -> Result<usize, Refusal>
     ensures { meaning result ≡ piece_count format size }
 {
     if size > format.packet_limit() {
-        return Outcome::Refused(Refusal::Size);
+        return Err(Refusal::Size);
     }
     let z = format.piece_size();
     let count = count_of(z, size);
-    Outcome::Value(count)
+    Ok(count)
 }
 
 fn flag_at(count: usize, k: usize) -> Flag
@@ -148,7 +148,7 @@ fn header_of(fields: Fields, flag: Flag, number: u8, count: u8) -> [u8; 6]
 }
 
 // Writes the image of a frame, or refuses with ROOM.
-fn place(fields: Fields, flag: Flag, number: u8, bytes: &[u8], output: &mut [u8]) -> Outcome
+fn place(fields: Fields, flag: Flag, number: u8, bytes: &[u8], output: &mut [u8]) -> Result<usize, Refusal>
     requires { (in_range fields ≡ true) × (number < number_range (format_of fields)) × (length bytes.now ≤ 8) }
     ensures { Writes (fitting (image_of (frame_with fields flag number bytes.now)) (length output.old)) output.old (meaning result) output.new }
 {
@@ -156,32 +156,32 @@ fn place(fields: Fields, flag: Flag, number: u8, bytes: &[u8], output: &mut [u8]
     let start = format.packet_start(flag);
     let size = start + bytes.len();
     if output.len() < size {
-        return Outcome::Refused(Refusal::Room);
+        return Err(Refusal::Room);
     }
     let count = size - format.header_size();
     let head = header_of(fields, flag, number, count as u8);
     put(&head, start, bytes, output);
-    Outcome::Value(size)
+    Ok(size)
 }
 
 // Writes the image of piece k of a packet over the head of the output and answers its length, or
 // refuses: FIELD, SIZE, INDEX, ROOM.
-pub fn write_piece(fields: Fields, packet: &[u8], k: usize, output: &mut [u8]) -> Outcome
+pub fn write_piece(fields: Fields, packet: &[u8], k: usize, output: &mut [u8]) -> Result<usize, Refusal>
     ensures result_value { meaning result ≡ answer (send fields packet.now k (length output.old)) }
     ensures output_after { output.new ≡ output_after (send fields packet.now k (length output.old)) output.old }
 {
     if !fields.in_range() {
-        return Outcome::Refused(Refusal::Field);
+        return Err(Refusal::Field);
     }
     let format = fields.format();
     let n = packet.len();
     if n > format.packet_limit() {
-        return Outcome::Refused(Refusal::Size);
+        return Err(Refusal::Size);
     }
     let z = format.piece_size();
     let count = count_of(z, n);
     if k >= count {
-        return Outcome::Refused(Refusal::Index);
+        return Err(Refusal::Index);
     }
     let flag = flag_at(count, k);
     let range = format.number_range();

@@ -46,8 +46,9 @@ use Rattle.station.proofs.Steps.{Carrying, judged_carries, keeps}
 use Rattle.station_bytes.specs.States.{station_in, is_state}
 use Rattle.station_bytes.specs.Calls.{StateAfter, BytesAfter, renewed, receive_in, open_in, close_in, read_in}
 use Rattle.master.specs.declared.Kind.{Kind}
-use Rattle.master.specs.declared.Activity.{Activity}
-use Rattle.master.specs.declared.Activity.TheVariants as activity
+use Rattle.std.specs.Prelude.{Option}
+use Rattle.master.specs.declared.Exchange.{Exchange}
+use Rattle.std.specs.Prelude.{None, Some}
 use Rattle.master.specs.declared.Master.{Master}
 use Rattle.master.specs.Masters.{plan_of, chosen_bus, switched, chosen_sound, sound}
 use Rattle.master.specs.Exchanges.{Told}
@@ -286,10 +287,10 @@ chosen_small : (master : Master) → sound master ≡ true → (node : ℕ) → 
 unfolding sound chosen_sound chosen_bus
 chosen_small master s node = bus_at master.chosen node (each _ (each _ s).0).1.0
 
-expired_small : (master : Master) → sound master ≡ true → (a : Activity) → BusUpTo 1 (exchanges.expired master.chosen a).told
+expired_small : (master : Master) → sound master ≡ true → (a : Option Exchange) → BusUpTo 1 (exchanges.expired master.chosen a).told
 unfolding exchanges.expired exchanges.chosen_after switched chosen_bus
-expired_small master s activity.Idle = tt
-expired_small master s (activity.UnderWay x) =
+expired_small master s None = tt
+expired_small master s (Some x) =
     either (λ (t : exchanges.Step). BusUpTo 1 t.told) (ltb x.sends (plan_of x.kind).total) _ _
     (either (λ (l : List ℕ). get_or l x.node 0 ≤ 1) (eqb x.sends (plan_of x.kind).first) _ _
     (set_small master.chosen x.node _ (omega arith))

@@ -20,7 +20,7 @@ ghost use Rattle.siljuvatt.specs.Claims.{OneWord, Small, ReadsThere};
 ghost use Rattle.siljuvatt.specs.Bounds.{LibraryBounds};
 
 use filter::{Filter, Pair};
-use format::{Fields, Outcome, Refusal};
+use format::{Fields, Refusal};
 use packet::{piece_count, write_piece};
 use slot::Key;
 use station_bytes::format_of;
@@ -44,12 +44,12 @@ fn refused(name: Refusal) -> u32
     2147483648 + wide(name.number())
 }
 
-fn outcome_word(outcome: Outcome) -> u32
+fn outcome_word(outcome: Result<usize, Refusal>) -> u32
     ensures { result ≡ outcome_word (outcomes.meaning outcome) }
 {
     match outcome {
-        Outcome::Value(n) => low(n),
-        Outcome::Refused(name) => refused(name),
+        Ok(n) => low(n),
+        Err(name) => refused(name),
     }
 }
 
@@ -62,35 +62,35 @@ fn broke_word(broke: bool) -> u32
     0
 }
 
-fn reply_word(answer: Answer) -> u32
+fn reply_word(answer: Result<Answer, Refusal>) -> u32
     ensures { result ≡ reply_word (replies.meaning answer) }
 {
     match answer {
-        Answer::Packet { length, broke } => 262144 + low(length) + broke_word(broke),
-        Answer::Kept { broke } => 327680 + broke_word(broke),
-        Answer::Filtered => 393216,
-        Answer::Refused(name) => refused(name),
+        Ok(Answer::Packet { length, broke }) => 262144 + low(length) + broke_word(broke),
+        Ok(Answer::Kept { broke }) => 327680 + broke_word(broke),
+        Ok(Answer::Filtered) => 393216,
+        Err(name) => refused(name),
     }
 }
 
-fn told_word(answer: master::Answer) -> u32
+fn told_word(answer: Result<master::Answer, Refusal>) -> u32
     ensures { result ≡ told_word (exchanges.meaning answer) }
 {
     match answer {
-        master::Answer::Send(bus) => 458752 + wide(bus),
-        master::Answer::Done => 524288,
-        master::Answer::GaveUp => 589824,
-        master::Answer::Refused(name) => refused(name),
+        Ok(master::Answer::Send(bus)) => 458752 + wide(bus),
+        Ok(master::Answer::Done) => 524288,
+        Ok(master::Answer::GaveUp) => 589824,
+        Err(name) => refused(name),
     }
 }
 
 // A check's answer: bit 25 for bus A, bit 26 for bus B. No refusal has these bits.
-fn reset_word(outcome: Outcome) -> u32
+fn reset_word(outcome: Result<usize, Refusal>) -> u32
     ensures { result ≡ reset_word (outcomes.meaning outcome) }
 {
     match outcome {
-        Outcome::Value(n) => (n % 4) as u32 * 33554432,
-        Outcome::Refused(name) => refused(name),
+        Ok(n) => (n % 4) as u32 * 33554432,
+        Err(name) => refused(name),
     }
 }
 
@@ -248,11 +248,11 @@ pub extern "C" fn siljuvatt_read(state: &[u8], store: &[u8], slot: usize, start:
     ensures start_after { start.new ≡ start_after (read_in state.now store.now slot) slot start.old }
 {
     match station_bytes::read_length(state, store, slot) {
-        Outcome::Value(n) => {
+        Ok(n) => {
             *start = Area::SIZE * slot;
             low(n)
         }
-        Outcome::Refused(name) => refused(name),
+        Err(name) => refused(name),
     }
 }
 

@@ -18,8 +18,9 @@ use Rattle.format.specs.Refusals.{value, refused, number}
 use Rattle.format.proofs.Checks.{stop, pass, none_left, passed}
 use Rattle.slot.specs.declared.Key.{Key}
 use Rattle.slot.specs.declared.Slot.{Slot}
-use Rattle.slot.specs.declared.Occupancy.{Occupancy}
-use Rattle.slot.specs.declared.Occupancy.TheVariants.{Closed, Open}
+use Rattle.std.specs.Prelude.{Option}
+use Rattle.slot.specs.declared.Stream.{Stream}
+use Rattle.std.specs.Prelude.{None, Some}
 use Rattle.slot.specs.Slots.{same_fields, same_key, open_with, has_key, place}
 use Rattle.slot.specs.Sound.{key_in_range, slot_sound, slots_sound, any, repeated_in, keys_differ, sound, sought}
 use Rattle.slot.specs.Codes.{code_of, key_code, slot_code, codes_from, is, clashing}
@@ -119,14 +120,14 @@ key_code_lem format a b e e' =
     (λ q. eq-eqb (key_code a) (key_code b) (ap key_code (same_key_lem a b q)))
 
 -- a sound slot's code is a key's exactly where the slot is open with it
-slot_code_lem : (format : Format) (o : Occupancy) (i : ℕ) (key : Key) → slot_sound format o ≡ true → key_in_range format key ≡ true
+slot_code_lem : (format : Format) (o : Option Stream) (i : ℕ) (key : Key) → slot_sound format o ≡ true → key_in_range format key ≡ true
     → eqb (slot_code o i) (key_code key) ≡ open_with key o
-slot_code_lem format Closed i key e r = let h = small format key r in ne_eqb (slot_code Closed i) (key_code key) (λ z. omega (arith, h))
-slot_code_lem format (Open stream) i key e r = key_code_lem format stream.key key (range_of format stream e) r
+slot_code_lem format None i key e r = let h = small format key r in ne_eqb (slot_code None i) (key_code key) (λ z. omega (arith, h))
+slot_code_lem format (Some stream) i key e r = key_code_lem format stream.key key (range_of format stream e) r
 
-pub slot_fits : (format : Format) (o : Occupancy) (i : ℕ) → i < 16 → slot_sound format o ≡ true → slot_code o i < 4294967296
-slot_fits format Closed i h e = omega arith
-slot_fits format (Open stream) i h e = omega (arith, small format stream.key (range_of format stream e))
+pub slot_fits : (format : Format) (o : Option Stream) (i : ℕ) → i < 16 → slot_sound format o ≡ true → slot_code o i < 4294967296
+slot_fits format None i h e = omega arith
+slot_fits format (Some stream) i h e = omega (arith, small format stream.key (range_of format stream e))
 
 or_both : (a b a' b' : Bool) → a ≡ a' → b ≡ b' → (a || b) ≡ (a' || b')
 or_both a b a' b' e q = cc
@@ -140,25 +141,25 @@ any_open format key (slot ∷ slots) i r e =
     (slot_code_lem format slot.occupancy i key (head_sound format slot slots e) r)
     (any_open format key slots (i + 1) r (rest_sound format slot slots e))
 
-closed_apart : (format : Format) (o : Occupancy) (i j : ℕ) → i < j → slot_sound format o ≡ true → eqb (slot_code o j) (slot_code Closed i) ≡ false
-closed_apart format Closed i j h e = ne_eqb (slot_code Closed j) (slot_code Closed i) (λ z. omega arith)
-closed_apart format (Open stream) i j h e =
+closed_apart : (format : Format) (o : Option Stream) (i j : ℕ) → i < j → slot_sound format o ≡ true → eqb (slot_code o j) (slot_code None i) ≡ false
+closed_apart format None i j h e = ne_eqb (slot_code None j) (slot_code None i) (λ z. omega arith)
+closed_apart format (Some stream) i j h e =
     let g = small format stream.key (range_of format stream e) in
-    ne_eqb (key_code stream.key) (slot_code Closed i) (λ z. omega (arith, g))
+    ne_eqb (key_code stream.key) (slot_code None i) (λ z. omega (arith, g))
 
-any_closed : (format : Format) (slots : List Slot) (i j : ℕ) → i < j → slots_sound format slots ≡ true → any (is (slot_code Closed i)) (codes_from slots j) ≡ false
+any_closed : (format : Format) (slots : List Slot) (i j : ℕ) → i < j → slots_sound format slots ≡ true → any (is (slot_code None i)) (codes_from slots j) ≡ false
 unfolding any
 any_closed format [] i j h e = refl
 any_closed format (slot ∷ slots) i j h e =
-    or_both (is (slot_code Closed i) (slot_code slot.occupancy j)) (any (is (slot_code Closed i)) (codes_from slots (j + 1))) false false
+    or_both (is (slot_code None i) (slot_code slot.occupancy j)) (any (is (slot_code None i)) (codes_from slots (j + 1))) false false
     (closed_apart format slot.occupancy i j h (head_sound format slot slots e))
     (any_closed format slots i (j + 1) (omega arith) (rest_sound format slot slots e))
 
 -- a slot's code is there again exactly where its key is
-head_same : (format : Format) (o : Occupancy) (slots : List Slot) (i : ℕ) → slot_sound format o ≡ true → slots_sound format slots ≡ true
+head_same : (format : Format) (o : Option Stream) (slots : List Slot) (i : ℕ) → slot_sound format o ≡ true → slots_sound format slots ≡ true
     → any (is (slot_code o i)) (codes_from slots (i + 1)) ≡ repeated_in o slots
-head_same format Closed slots i e g = any_closed format slots i (i + 1) (omega arith) g
-head_same format (Open stream) slots i e g = any_open format stream.key slots (i + 1) (range_of format stream e) g
+head_same format None slots i e g = any_closed format slots i (i + 1) (omega arith) g
+head_same format (Some stream) slots i e g = any_open format stream.key slots (i + 1) (range_of format stream e) g
 
 join : (a a' d c : Bool) → a' ≡ a → d ≡ not c → (not a && d) ≡ not (a' || c)
 join true a' d c h g = rw h

@@ -12,14 +12,15 @@ use Rattle.format.proofs.Tests.{each}
 use Rattle.slot.specs.declared.Key.{Key}
 use Rattle.slot.specs.declared.Slot.{Slot}
 use Rattle.slot.specs.declared.Stream.{Stream}
-use Rattle.slot.specs.declared.Occupancy.{Occupancy}
-use Rattle.slot.specs.declared.Occupancy.TheVariants.{Closed, Open}
+use Rattle.std.specs.Prelude.{Option}
+use Rattle.slot.specs.declared.Stream.{Stream}
+use Rattle.std.specs.Prelude.{None, Some}
 use Rattle.slot.specs.Slots.{same_key, open_with, has_key, place}
 use Rattle.slot.specs.Sound.{key_in_range, slot_sound, slots_sound, any}
 use Rattle.slot.proofs.Keys.{same_key_lem}
 use Rattle.slot.proofs.Places.{place_none}
 
-pub range_of : (format : Format) (stream : Stream) → slot_sound format (Open stream) ≡ true → key_in_range format stream.key ≡ true
+pub range_of : (format : Format) (stream : Stream) → slot_sound format (Some stream) ≡ true → key_in_range format stream.key ≡ true
 unfolding slot_sound
 range_of format stream e = (each _ e).0
 
@@ -33,9 +34,9 @@ module _ (format : Format) (slot : Slot) (slots : List Slot) (e : slots_sound fo
   rest_sound = (each _ e).1.0
 
 -- a key out of range is open nowhere
-not_open : (format : Format) (key : Key) (o : Occupancy) → key_in_range format key ≡ false → slot_sound format o ≡ true → open_with key o ≡ false
-not_open format key Closed r e = refl
-not_open format key (Open stream) r e = go (same_key stream.key key) refl
+not_open : (format : Format) (key : Key) (o : Option Stream) → key_in_range format key ≡ false → slot_sound format o ≡ true → open_with key o ≡ false
+not_open format key None r e = refl
+not_open format key (Some stream) r e = go (same_key stream.key key) refl
   where
     go : (b : Bool) → same_key stream.key key ≡ b → same_key stream.key key ≡ false
     go true q =

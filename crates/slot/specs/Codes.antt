@@ -6,8 +6,9 @@ use Rattle.std.specs.Prelude.{ℕ, ◌+◌, ◌*◌, Bool, false, ◌||◌, List
 use Rattle.format.specs.declared.Fields.{Fields}
 use Rattle.format.specs.declared.Fields.TheVariants.{Extended, Standard}
 use Rattle.slot.specs.declared.Key.{Key}
-use Rattle.slot.specs.declared.Occupancy.{Occupancy}
-use Rattle.slot.specs.declared.Occupancy.TheVariants.{Closed, Open}
+use Rattle.std.specs.Prelude.{Option}
+use Rattle.slot.specs.declared.Stream.{Stream}
+use Rattle.std.specs.Prelude.{None, Some}
 use Rattle.slot.specs.declared.Slot.{Slot}
 use Rattle.slot.specs.Sound.{any}
 
@@ -18,9 +19,9 @@ code_of bus (Standard p a s) = p + a * 256 + s * 65536 + 16384 + bus * 128
 abbrev pub key_code : Key → ℕ
 key_code key = code_of key.bus key.fields
 
-abbrev pub slot_code : Occupancy → ℕ → ℕ
-slot_code Closed i = 1073741824 + i
-slot_code (Open stream) i = key_code stream.key
+abbrev pub slot_code : Option Stream → ℕ → ℕ
+slot_code None i = 1073741824 + i
+slot_code (Some stream) i = key_code stream.key
 
 -- the codes of the slots, the first of which is slot i
 abbrev pub codes_from : List Slot → ℕ → List ℕ

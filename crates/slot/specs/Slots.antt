@@ -6,15 +6,16 @@ use Rattle.format.specs.declared.Fields.TheVariants.{Extended, Standard}
 use Rattle.format.specs.Tests.{all_true}
 use Rattle.stream.specs.declared.Progress.{Progress}
 use Rattle.slot.specs.declared.Key.{Key}
-use Rattle.slot.specs.declared.Occupancy.{Occupancy}
-use Rattle.slot.specs.declared.Occupancy.TheVariants.{Closed, Open}
+use Rattle.std.specs.Prelude.{Option}
+use Rattle.slot.specs.declared.Stream.{Stream}
+use Rattle.std.specs.Prelude.{None, Some}
 use Rattle.slot.specs.declared.Slot.{Slot}
 
 abbrev pub closed_slot : Slot
-closed_slot = record { occupancy = Closed }
+closed_slot = record { occupancy = None }
 
 abbrev pub open_slot : Key → Progress → Slot
-open_slot key progress = record { occupancy = Open (record { key = key; progress = progress }) }
+open_slot key progress = record { occupancy = Some (record { key = key; progress = progress }) }
 
 -- slot i; a closed one where there is none
 abbrev pub slot_at : List Slot → ℕ → Slot
@@ -30,13 +31,13 @@ unfoldable pub same_key : Key → Key → Bool
 same_key a b = all_true (eqb a.bus b.bus ∷ same_fields a.fields b.fields ∷ [])
 
 -- closed; open with that key
-abbrev pub closed : Occupancy → Bool
-closed Closed = true
-closed (Open stream) = false
+abbrev pub closed : Option Stream → Bool
+closed None = true
+closed (Some stream) = false
 
-abbrev pub open_with : Key → Occupancy → Bool
-open_with key Closed = false
-open_with key (Open stream) = same_key stream.key key
+abbrev pub open_with : Key → Option Stream → Bool
+open_with key None = false
+open_with key (Some stream) = same_key stream.key key
 
 abbrev pub is_closed : Slot → Bool
 is_closed slot = closed slot.occupancy

@@ -11,8 +11,9 @@ use Rattle.format.specs.Formats.{piece_size, packet_limit, format_of, in_range}
 use Rattle.stream.specs.declared.Progress.{Progress}
 use Rattle.stream.specs.declared.Progress.TheVariants.{Idle, Collecting, Done}
 use Rattle.slot.specs.declared.Key.{Key}
-use Rattle.slot.specs.declared.Occupancy.{Occupancy}
-use Rattle.slot.specs.declared.Occupancy.TheVariants.{Closed, Open}
+use Rattle.std.specs.Prelude.{Option}
+use Rattle.slot.specs.declared.Stream.{Stream}
+use Rattle.std.specs.Prelude.{None, Some}
 use Rattle.slot.specs.declared.Slot.{Slot}
 use Rattle.slot.specs.Slots.{has_key, place}
 
@@ -36,9 +37,9 @@ fits format Idle = true
 fits format (Collecting h) = all_true (eqb (h % piece_size format) 0 ∷ leb (piece_size format) h ∷ leb h (most_held format) ∷ [])
 fits format (Done h) = leb h (packet_limit format)
 
-unfoldable pub slot_sound : Format → Occupancy → Bool
-slot_sound format Closed = true
-slot_sound format (Open stream) = all_true (key_in_range format stream.key ∷ fits format stream.progress ∷ [])
+unfoldable pub slot_sound : Format → Option Stream → Bool
+slot_sound format None = true
+slot_sound format (Some stream) = all_true (key_in_range format stream.key ∷ fits format stream.progress ∷ [])
 
 unfoldable pub slots_sound : Format → List Slot → Bool
 slots_sound format [] = true
@@ -49,9 +50,9 @@ any test [] = false
 any test (x ∷ xs) = test x || any test xs
 
 -- the slot's key, if it is open, is open among the others
-abbrev pub repeated_in : Occupancy → List Slot → Bool
-repeated_in Closed slots = false
-repeated_in (Open stream) slots = any (has_key stream.key) slots
+abbrev pub repeated_in : Option Stream → List Slot → Bool
+repeated_in None slots = false
+repeated_in (Some stream) slots = any (has_key stream.key) slots
 
 -- open keys differ: none is open again further on
 unfoldable pub keys_differ : List Slot → Bool

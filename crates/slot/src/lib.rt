@@ -9,7 +9,7 @@ ghost use Rattle.slot.specs.Slots.{same_fields, is_closed, closed, open_with, ha
 ghost use Rattle.slot.specs.Sound.{key_in_range, fits, slot_sound, slots_sound, any, sound, sought};
 ghost use Rattle.slot.specs.Bounds.{SlotBounds};
 
-use format::{Extended, Fields, Format, Outcome, Refusal, Standard};
+use format::{Extended, Fields, Format, Refusal, Standard};
 use stream::Progress;
 
 // What a stream is known by: the bus (0 is A, 1 is B) and all identifier fields.
@@ -26,14 +26,8 @@ pub struct Stream {
 }
 
 #[derive(Clone, Copy)]
-pub enum Occupancy {
-    Closed,
-    Open(Stream),
-}
-
-#[derive(Clone, Copy)]
 pub struct Slot {
-    pub occupancy: Occupancy,
+    pub occupancy: Option<Stream>,
 }
 
 // Whether the bus is A or B, and the fields are of the format and each in its range.
@@ -124,12 +118,12 @@ fn fits(format: Format, progress: Progress) -> bool
     }
 }
 
-fn slot_sound(format: Format, occupancy: &Occupancy) -> bool
+fn slot_sound(format: Format, occupancy: &Option<Stream>) -> bool
     ensures { result ≡ slot_sound format occupancy.now }
 {
     match occupancy {
-        Occupancy::Closed => true,
-        Occupancy::Open(stream) => {
+        None => true,
+        Some(stream) => {
             let progress = stream.progress;
             if in_range_of(format, &stream.key) {
                 fits(format, progress)
@@ -177,13 +171,13 @@ fn key_code(key: &Key) -> u32
 }
 
 // A closed slot has a number of its own, above every key's.
-fn slot_code(occupancy: &Occupancy, i: u32) -> u32
+fn slot_code(occupancy: &Option<Stream>, i: u32) -> u32
     requires { slot_code occupancy.now i < 4294967296 }
     ensures { result ≡ slot_code occupancy.now i }
 {
     match occupancy {
-        Occupancy::Closed => 1073741824 + i,
-        Occupancy::Open(stream) => { key_code(&stream.key) }
+        None => 1073741824 + i,
+        Some(stream) => { key_code(&stream.key) }
     }
 }
 
@@ -260,12 +254,12 @@ pub fn find_key(format: Format, codes: &[u32], key: Key) -> usize
     find_code(codes, key_code(&key))
 }
 
-fn is_closed(occupancy: Occupancy) -> bool
+fn is_closed(occupancy: Option<Stream>) -> bool
     ensures { result ≡ closed occupancy }
 {
     match occupancy {
-        Occupancy::Closed => true,
-        Occupancy::Open(_) => false,
+        None => true,
+        Some(_) => false,
     }
 }
 
@@ -336,12 +330,12 @@ fn same_fields(a: Fields, b: Fields) -> bool
     }
 }
 
-fn open_with(key: Key, occupancy: Occupancy) -> bool
+fn open_with(key: Key, occupancy: Option<Stream>) -> bool
     ensures { result ≡ open_with key occupancy }
 {
     match occupancy {
-        Occupancy::Closed => false,
-        Occupancy::Open(stream) => {
+        None => false,
+        Some(stream) => {
             let own = stream.key;
             let a = own.fields;
             let b = key.fields;
@@ -368,17 +362,17 @@ pub fn find(slots: [Slot; 16], key: Key) -> usize
 
 // Where the key is open, 16 if nowhere, or STATE. Soundness is found out on the way, from the same
 // codes.
-pub fn seek(format: Format, slots: [Slot; 16], key: Key) -> Outcome
+pub fn seek(format: Format, slots: [Slot; 16], key: Key) -> Result<usize, Refusal>
     ensures { meaning result ≡ sought format slots key }
 {
     let mut codes = [0u32; 16];
     if !scan(format, slots, &mut codes) {
-        return Outcome::Refused(Refusal::State);
+        return Err(Refusal::State);
     }
     if clash(&codes) {
-        return Outcome::Refused(Refusal::State);
+        return Err(Refusal::State);
     }
-    Outcome::Value(find_key(format, &codes, key))
+    Ok(find_key(format, &codes, key))
 }
 
 // Whether each slot is sound and open keys differ. Told by seek, for any key: so scan is called in one
@@ -396,8 +390,8 @@ pub fn sound(format: Format, slots: [Slot; 16]) -> bool
         fields: fields,
     };
     match seek(format, slots, key) {
-        Outcome::Refused(_) => false,
-        Outcome::Value(_) => true,
+        Err(_) => false,
+        Ok(_) => true,
     }
 }
 

@@ -18,8 +18,9 @@ use Rattle.frame.specs.Judge.{Frame, Judged, judge}
 use Rattle.stream.specs.Answers.{filtered}
 use Rattle.stream.specs.Step.{step}
 use Rattle.slot.specs.declared.Key.{Key}
-use Rattle.slot.specs.declared.Occupancy.{Occupancy}
-use Rattle.slot.specs.declared.Occupancy.TheVariants.{Closed, Open}
+use Rattle.std.specs.Prelude.{Option}
+use Rattle.slot.specs.declared.Stream.{Stream}
+use Rattle.std.specs.Prelude.{None, Some}
 use Rattle.slot.specs.declared.Slot.{Slot}
 use Rattle.slot.specs.Slots.{closed_slot, open_slot, slot_at, open_with, has_key, place}
 use Rattle.slot.specs.Sound.{key_in_range, fits, slot_sound, slots_sound, keys_differ, sound}
@@ -50,11 +51,11 @@ unfolding sound
 stays_sound station store g = from_each _ (eq-eqb _ _ g.sixteen, (g.fit, (g.differ, tt)))
 
 -- what an open slot with that key says of its progress and key
-opened : (format : Format) (o : Occupancy) (key : Key) → open_with key o ≡ true → slot_sound format o ≡ true
+opened : (format : Format) (o : Option Stream) (key : Key) → open_with key o ≡ true → slot_sound format o ≡ true
     → (key_in_range format key ≡ true) × (fits format (progress_in o) ≡ true)
 unfolding slot_sound
-opened format Closed key e s = let z : ◌≡◌ {A = ℕ} 0 1 = cc in absurd (omega arith)
-opened format (Open stream) key e s =
+opened format None key e s = let z : ◌≡◌ {A = ℕ} 0 1 = cc in absurd (omega arith)
+opened format (Some stream) key e s =
     let t = each _ s in (ap (key_in_range format) (sym (same_key_lem stream.key key e)) ∙ t.0, t.1.0)
 
 module _ (station : Station) (store : List ℕ) (g : Good station store) where

@@ -22,8 +22,9 @@ use Rattle.stream.specs.declared.Progress.TheVariants.{Idle, Collecting, Done}
 use Rattle.stream.specs.Step.{held}
 use Rattle.slot.specs.declared.Key.{Key}
 use Rattle.slot.specs.declared.Slot.{Slot}
-use Rattle.slot.specs.declared.Occupancy.{Occupancy}
-use Rattle.slot.specs.declared.Occupancy.TheVariants.{Closed, Open}
+use Rattle.std.specs.Prelude.{Option}
+use Rattle.slot.specs.declared.Stream.{Stream}
+use Rattle.std.specs.Prelude.{None, Some}
 use Rattle.slot.specs.Slots.{closed_slot, open_slot, slot_at, is_closed, has_key, place}
 use Rattle.slot.specs.Sound.{key_in_range, fits, slot_sound, any, sound, sought}
 use Rattle.slot.proofs.Places.{any_place}
@@ -146,10 +147,10 @@ module _ (station : Station) (store : List ℕ) (i : ℕ) where
             (ap length_of (pass refusal.State _ _ s (pass refusal.Store _ _ (eq-eqb _ _ w) (pass refusal.Closed _ _ o (stop refusal.NoPacket _ _ d)))))
 
 -- what is done in a sound slot is within the area
-done_small : (format : Format) (o : Occupancy) (h : ℕ) → slot_sound format o ≡ true → is_done (progress_in o) ≡ true → held (progress_in o) ≤ 2048
+done_small : (format : Format) (o : Option Stream) (h : ℕ) → slot_sound format o ≡ true → is_done (progress_in o) ≡ true → held (progress_in o) ≤ 2048
 unfolding slot_sound fits
-done_small format Closed h s d = omega arith
-done_small format (Open stream) h s d = go stream.progress (each _ s).1.0 d
+done_small format None h s d = omega arith
+done_small format (Some stream) h s d = go stream.progress (each _ s).1.0 d
   where
     go : (p : Progress) → fits format p ≡ true → is_done p ≡ true → held p ≤ 2048
     go Idle f d = omega arith

@@ -16,8 +16,9 @@ use Rattle.stream.specs.OneStream.{Alone, one_stream}
 use Rattle.slot.specs.declared.Key.{Key}
 use Rattle.slot.specs.declared.Stream.{Stream}
 use Rattle.slot.specs.declared.Slot.{Slot}
-use Rattle.slot.specs.declared.Occupancy.{Occupancy}
-use Rattle.slot.specs.declared.Occupancy.TheVariants.{Closed, Open}
+use Rattle.std.specs.Prelude.{Option}
+use Rattle.slot.specs.declared.Stream.{Stream}
+use Rattle.std.specs.Prelude.{None, Some}
 use Rattle.slot.specs.Slots.{closed_slot, open_slot, slot_at, same_key, has_key}
 use Rattle.slot.proofs.Keys.{same_key_lem}
 use Rattle.station.specs.declared.Station.{Station}
@@ -179,14 +180,14 @@ module _ (station : Station) (store : List ℕ) (g : Good station store) where
     same-alone i stream s = ap (one_stream station.format stream.progress (area store i)) (same i stream s)
 
     -- slot i and its area, open or closed
-    same-slot : (i : ℕ) → i < 16 → (o : Occupancy) → slot_at station.slots i ≡ record { occupancy = o }
+    same-slot : (i : ℕ) → i < 16 → (o : Option Stream) → slot_at station.slots i ≡ record { occupancy = o }
         → (slot_at (run station store calls).station.slots i ≡ slot_at (run station store others).station.slots i)
         × (area (run station store calls).store i ≡ area (run station store others).store i)
-    same-slot i h Closed e =
+    same-slot i h None e =
         let a = closed_run i h calls station store g e in
         let b = closed_run i h others station store g e in
         (a.0 ∙ sym b.0, a.1 ∙ sym b.1)
-    same-slot i h (Open stream) e =
+    same-slot i h (Some stream) e =
         let a = ends calls i stream (h, e) in
         let b = ends others i stream (h, e) in
         let x = same-alone i stream (h, e) in (

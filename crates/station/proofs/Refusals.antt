@@ -25,8 +25,9 @@ use Rattle.stream.specs.Answers.{Reply, filtered}
 use Rattle.stream.specs.Step.{Next, appended, followed, stepped, step}
 use Rattle.stream.proofs.Cases.{refused_with, while_idle, while_done, while_collecting}
 use Rattle.slot.specs.declared.Key.{Key}
-use Rattle.slot.specs.declared.Occupancy.{Occupancy}
-use Rattle.slot.specs.declared.Occupancy.TheVariants.{Closed, Open}
+use Rattle.std.specs.Prelude.{Option}
+use Rattle.slot.specs.declared.Stream.{Stream}
+use Rattle.std.specs.Prelude.{None, Some}
 use Rattle.slot.specs.declared.Slot.{Slot}
 use Rattle.slot.specs.Slots.{closed_slot, open_slot, slot_at, is_closed, open_with, has_key, place}
 use Rattle.slot.specs.Sound.{sound}
@@ -97,13 +98,13 @@ put_back store i =
 
 module _ (station : Station) (i : ℕ) (key : Key) where
   -- the slot that has the key, with what a refusal leaves of it
-  left : (o : Occupancy) → slot_at station.slots i ≡ record { occupancy = o } → open_with key o ≡ true → (b : Bool)
+  left : (o : Option Stream) → slot_at station.slots i ≡ record { occupancy = o } → open_with key o ≡ true → (b : Bool)
       → with_slots station (set station.slots i (open_slot key (cond b Idle (progress_of (record { occupancy = o })))))
       ≡ cond b (with_slots station (set station.slots i (idled o))) station
-  left Closed at e b = let z : ◌≡◌ {A = ℕ} 0 1 = cc in absurd (omega arith)
-  left (Open stream) at e true =
+  left None at e b = let z : ◌≡◌ {A = ℕ} 0 1 = cc in absurd (omega arith)
+  left (Some stream) at e true =
       let k = sym (same_key_lem stream.key key e) in ap (λ (x : Key). with_slots station (set station.slots i (open_slot x Idle))) k
-  left (Open stream) at e false =
+  left (Some stream) at e false =
       let k = sym (same_key_lem stream.key key e) in
       ap (λ (x : Key). with_slots station (set station.slots i (open_slot x stream.progress))) k
       ∙ ap (λ (x : Slot). with_slots station (set station.slots i x)) (sym at) ∙ ap (with_slots station) (set-get_or station.slots i closed_slot)

@@ -13,8 +13,9 @@ use Rattle.format.specs.declared.Format.{Format}
 use Rattle.format.proofs.Tests.{each, from_each}
 use Rattle.slot.specs.declared.Key.{Key}
 use Rattle.slot.specs.declared.Slot.{Slot}
-use Rattle.slot.specs.declared.Occupancy.{Occupancy}
-use Rattle.slot.specs.declared.Occupancy.TheVariants.{Closed, Open}
+use Rattle.std.specs.Prelude.{Option}
+use Rattle.slot.specs.declared.Stream.{Stream}
+use Rattle.std.specs.Prelude.{None, Some}
 use Rattle.slot.specs.Slots.{closed_slot, slot_at, same_key, open_with, has_key, place}
 use Rattle.slot.specs.Sound.{slot_sound, slots_sound, any, repeated_in, keys_differ}
 use Rattle.slot.proofs.Keys.{same_key_lem}
@@ -51,11 +52,11 @@ later : (b c : Bool) (n i : ℕ) → c ≡ eqb n i → (b ≡ true → c ≡ fal
 later true c n i e h = h refl ∙ sym (eqb-zero-suc i)
 later false c n i e h = e ∙ sym (eqb-suc-suc n i)
 
-past : (o : Occupancy) (slots : List Slot) (key : Key) (i : ℕ) → not (repeated_in o slots) ≡ true → i < length slots
+past : (o : Option Stream) (slots : List Slot) (key : Key) (i : ℕ) → not (repeated_in o slots) ≡ true → i < length slots
     → has_key key (slot_at slots i) ≡ eqb (place (has_key key) slots) i
     → has_key key (slot_at slots i) ≡ eqb (cond (open_with key o) 0 (suc (place (has_key key) slots))) (suc i)
-past Closed slots key i lone h ih = ih ∙ sym (eqb-suc-suc (place (has_key key) slots) i)
-past (Open stream) slots key i lone h ih =
+past None slots key i lone h ih = ih ∙ sym (eqb-suc-suc (place (has_key key) slots) i)
+past (Some stream) slots key i lone h ih =
     let absent = place_none (has_key stream.key) slots (not-true _ lone) in
     let away : eqb (length slots) i ≡ false = ne_eqb (length slots) i (λ e. omega arith) in
     later (same_key stream.key key) (has_key key (slot_at slots i)) (place (has_key key) slots) i ih
@@ -87,9 +88,9 @@ sound_set format (s ∷ slots) e zero slot f = from_each _ (f, (each _ e).1)
 sound_set format (s ∷ slots) e (suc i) slot f = from_each _ ((each _ e).0, (sound_set format slots (each _ e).1.0 i slot f, tt))
 
 -- what is open in the one with a key is open in the other with it
-abbrev pub clashes : Occupancy → Slot → Bool
-clashes Closed slot = false
-clashes (Open stream) slot = has_key stream.key slot
+abbrev pub clashes : Option Stream → Slot → Bool
+clashes None slot = false
+clashes (Some stream) slot = has_key stream.key slot
 
 apart : (a b : Key) → same_key a b ≡ false → same_key b a ≡ false
 apart a b e = go (same_key b a) refl
@@ -98,23 +99,23 @@ apart a b e = go (same_key b a) refl
     go true t = ap (λ (k : Key). same_key k a) (same_key_lem b a t) ∙ sym (ap (same_key a) (same_key_lem b a t)) ∙ e
     go false t = t
 
-either_way : (o p : Occupancy) → clashes o (record { occupancy = p }) ≡ false → clashes p (record { occupancy = o }) ≡ false
-either_way Closed Closed e = refl
-either_way Closed (Open q) e = refl
-either_way (Open r) Closed e = refl
-either_way (Open r) (Open q) e = apart q.key r.key e
+either_way : (o p : Option Stream) → clashes o (record { occupancy = p }) ≡ false → clashes p (record { occupancy = o }) ≡ false
+either_way None None e = refl
+either_way None (Some q) e = refl
+either_way (Some r) None e = refl
+either_way (Some r) (Some q) e = apart q.key r.key e
 
 not_false_is : (b : Bool) → b ≡ false → not b ≡ true
 not_false_is true e = let z : ◌≡◌ {A = ℕ} 0 1 = cc in absurd (omega arith)
 not_false_is false e = refl
 
-alone_in : (o : Occupancy) (slots : List Slot) → ((j : ℕ) → j < length slots → clashes o (slot_at slots j) ≡ false) → repeated_in o slots ≡ false
-alone_in Closed slots h = refl
-alone_in (Open stream) slots h = none_holds (has_key stream.key) slots closed_slot h
+alone_in : (o : Option Stream) (slots : List Slot) → ((j : ℕ) → j < length slots → clashes o (slot_at slots j) ≡ false) → repeated_in o slots ≡ false
+alone_in None slots h = refl
+alone_in (Some stream) slots h = none_holds (has_key stream.key) slots closed_slot h
 
-repeated_set : (o : Occupancy) (slots : List Slot) (i : ℕ) (slot : Slot) → repeated_in o slots ≡ false → clashes o slot ≡ false → repeated_in o (set slots i slot) ≡ false
-repeated_set Closed slots i slot e c = refl
-repeated_set (Open stream) slots i slot e c = any_set (has_key stream.key) slots i slot e c
+repeated_set : (o : Option Stream) (slots : List Slot) (i : ℕ) (slot : Slot) → repeated_in o slots ≡ false → clashes o slot ≡ false → repeated_in o (set slots i slot) ≡ false
+repeated_set None slots i slot e c = refl
+repeated_set (Some stream) slots i slot e c = any_set (has_key stream.key) slots i slot e c
 
 pub differ_set : (slots : List Slot) → keys_differ slots ≡ true → (i : ℕ) (slot : Slot)
     → ((j : ℕ) → j ≢ i → j < length slots → clashes slot.occupancy (slot_at slots j) ≡ false) → keys_differ (set slots i slot) ≡ true

@@ -13,19 +13,22 @@ use borrow.Author.Tests.{eq-eqb, ne_eqb, lt-ltb, le-ltb, lt-leb, le-leb}
 use Rattle.format.specs.declared.Format.{Format}
 use Rattle.format.specs.declared.Refusal.{Refusal}
 use Rattle.format.specs.declared.Refusal.TheVariants.{Field, Store, State}
-use Rattle.format.specs.declared.Outcome.{Outcome}
-use Rattle.format.specs.declared.Outcome.TheVariants as outcome
+use Rattle.format.specs.Refusals.{Returned}
+use Rattle.std.specs.Prelude.{Ok}
 use Rattle.format.proofs.Checks.{stop_then, passed}
 use Rattle.format.specs.Refusals as answers
 use Rattle.format.specs.Refusals.{check, Result, value, refused, number, guarded, checked_then}
 use Rattle.frame.specs.declared.Head.{Head}
-use Rattle.frame.specs.declared.Verdict.{Verdict}
-use Rattle.frame.specs.declared.Verdict.TheVariants as verdict
+use Rattle.format.specs.Refusals.{Returned}
+use Rattle.frame.specs.declared.Head.{Head}
+use Rattle.std.specs.Prelude.{Ok}
 use Rattle.frame.specs.Judge as verdicts
 use Rattle.frame.proofs.Judged.{sound_image}
 use Rattle.frame.specs.Judge.{Frame, Judged, judge}
+use Rattle.format.specs.Refusals.{Returned}
 use Rattle.stream.specs.declared.Answer.{Answer}
-use Rattle.stream.specs.declared.Answer.TheVariants.{Refused, Filtered}
+use Rattle.stream.specs.declared.Answer.TheVariants.{Filtered}
+use Rattle.std.specs.Prelude.{Err, Ok}
 use Rattle.stream.specs.declared.Progress.{Progress}
 use Rattle.stream.specs.declared.Stepped.{Stepped}
 use Rattle.stream.specs.Answers.{meaning}
@@ -41,7 +44,7 @@ use Rattle.station.specs.Receive.{After, unchanged, key_of, progress_of, step_at
 use Rattle.station.specs.Parts.{refused_as, frame_of, Steps}
 use Rattle.station.proofs.Areas.{area_length}
 
-abbrev pub turn_of : ℕ → Slot → Answer → Turn
+abbrev pub turn_of : ℕ → Slot → Returned Answer → Turn
 turn_of at slot answer = record { at = at; slot = slot; answer = answer }
 
 -- what a search says of the slots
@@ -126,49 +129,49 @@ module _ (format : Format) (slots : List Slot) (store : List ℕ) (bus : ℕ) (i
 
   -- no slot changes
   module _ (l : Leaves slots) where
-    abbrev pub unmoved : Answer → After
+    abbrev pub unmoved : Returned Answer → After
     unmoved answer = after_turn format slots (turn_of l.at l.slot answer) store
 
-    stays : (answer : Answer) (r : After) → r ≡ unchanged (station_of format slots) store (meaning answer) → unmoved answer ≡ r
+    stays : (answer : Returned Answer) (r : After) → r ≡ unchanged (station_of format slots) store (meaning answer) → unmoved answer ≡ r
     stays answer r e = rw l.kept (sym e)
 
     -- the image is refused
     pub at-image : (own : Refusal) → refused (number own) ≡ judge format image
-        → unmoved (Refused (refused_as format slots (length store) bus own)) ≡ receive (station_of format slots) store bus image
+        → unmoved (Err (refused_as format slots (length store) bus own)) ≡ receive (station_of format slots) store bus image
     unfolding refused_as receive checked_then
     at-image own e = go (sound format slots) (eqb (length store) 32768) (leb bus 1)
       where
         go : (s w b : Bool)
-            → unmoved (Refused (cond s (cond w (cond b own Field) Store) State))
+            → unmoved (Err (cond s (cond w (cond b own Field) Store) State))
             ≡ judged_as (station_of format slots) store bus (cond s (cond w (cond b (judge format image) (refused 9)) (refused 13)) (refused 21))
-        go false w b = stays (Refused State) _ refl
-        go true false b = stays (Refused Store) _ refl
-        go true true false = stays (Refused Field) _ refl
-        go true true true = stays (Refused own) _ (ap (λ (j : Result Judged). judged_as (station_of format slots) store bus j) (sym e))
+        go false w b = stays (Err State) _ refl
+        go true false b = stays (Err Store) _ refl
+        go true true false = stays (Err Field) _ refl
+        go true true true = stays (Err own) _ (ap (λ (j : Result Judged). judged_as (station_of format slots) store bus j) (sym e))
 
     pub at_state : (key : Key) (name : Refusal) → refused (number name) ≡ sought format slots key
-        → unmoved (Refused name) ≡ receive (station_of format slots) store bus image
+        → unmoved (Err name) ≡ receive (station_of format slots) store bus image
     unfolding receive
     at_state key name e =
         let u = sought_refused format slots key (number name) (sym e) in
         let why = sym (stop_then State _ _ u.0) ∙ ap refused (sym u.1) in
-        stays (Refused name) _ (ap (judged_as (station_of format slots) store bus) why)
+        stays (Err name) _ (ap (judged_as (station_of format slots) store bus) why)
 
     pub at_store : sound format slots ≡ true → length store ≢ 32768
-        → unmoved (Refused Store) ≡ receive (station_of format slots) store bus image
+        → unmoved (Err Store) ≡ receive (station_of format slots) store bus image
     unfolding receive checked_then
-    at_store s w = stays (Refused Store) _ (rw (s, ne_eqb (length store) 32768 w))
+    at_store s w = stays (Err Store) _ (rw (s, ne_eqb (length store) 32768 w))
 
     pub at_field : sound format slots ≡ true → length store ≡ 32768 → 1 < bus
-        → unmoved (Refused Field) ≡ receive (station_of format slots) store bus image
+        → unmoved (Err Field) ≡ receive (station_of format slots) store bus image
     unfolding receive checked_then
-    at_field s w b = stays (Refused Field) _ (rw (s, eq-eqb (length store) 32768 w, lt-leb bus 1 b))
+    at_field s w b = stays (Err Field) _ (rw (s, eq-eqb (length store) 32768 w, lt-leb bus 1 b))
 
     pub at_none : sound format slots ≡ true → length store ≡ 32768 → bus ≤ 1 → (judged : Judged) → value judged ≡ judge format image
         → (i : ℕ) → place (has_key (key_of bus judged.frame)) slots ≡ i → 16 ≤ i
-        → unmoved Filtered ≡ receive (station_of format slots) store bus image
+        → unmoved (Ok Filtered) ≡ receive (station_of format slots) store bus image
     unfolding deliver
-    at_none s w b judged e i p h = rw (as-frame s w b judged e) (stays Filtered _ (rw (p, le-ltb i 16 h)))
+    at_none s w b judged e i p h = rw (as-frame s w b judged e) (stays (Ok Filtered) _ (rw (p, le-ltb i 16 h)))
 
 -- a turn that names no slot
 pub none_named : (format : Format) (slots : List Slot) → length slots ≡ 16 → (r : Turn) (store : List ℕ) → 16 ≤ r.at
@@ -224,11 +227,11 @@ pub record Found (format : Format) (slots : List Slot) (bus : ℕ) (image : List
   pub start : head.start ≤ length image
   pub bytes : length image - head.start ≤ 8
 
-pub found : (format : Format) (slots : List Slot) (bus : ℕ) (image : List ℕ) (head : Head) (i : ℕ) (v : Verdict) (o : Outcome)
-    → verdicts.meaning v image ≡ judge format image → v ≡ verdict.Sound head
-    → answers.meaning o ≡ sought format slots (key_of bus (frame_of head image)) → o ≡ outcome.Value i → Found format slots bus image head i
+pub found : (format : Format) (slots : List Slot) (bus : ℕ) (image : List ℕ) (head : Head) (i : ℕ) (v : Returned Head) (o : Returned ℕ)
+    → verdicts.meaning v image ≡ judge format image → v ≡ Ok head
+    → answers.meaning o ≡ sought format slots (key_of bus (frame_of head image)) → o ≡ Ok i → Found format slots bus image head i
 found format slots bus image head i v o e ev es ei =
-    let j = ap (λ (v : Verdict). verdicts.meaning v image) (sym ev) ∙ e in
+    let j = ap (λ (v : Returned Head). verdicts.meaning v image) (sym ev) ∙ e in
     let t = sought_at format slots (key_of bus (frame_of head image)) i (sym es ∙ ap answers.meaning ei) in
     let n = sound_image format image (record { frame = frame_of head image; start = head.start }) (sym j) in
     record { ok = t.0; placed = t.1; judged = j; start = n.starts; bytes = n.most }

@@ -24,8 +24,9 @@ use Rattle.stream.specs.Step.{collecting}
 use Rattle.stream.specs.OneStream.{Alone, one_stream}
 use Rattle.slot.specs.declared.Key.{Key}
 use Rattle.slot.specs.declared.Stream.{Stream}
-use Rattle.slot.specs.declared.Occupancy.{Occupancy}
-use Rattle.slot.specs.declared.Occupancy.TheVariants.{Closed, Open}
+use Rattle.std.specs.Prelude.{Option}
+use Rattle.slot.specs.declared.Stream.{Stream}
+use Rattle.std.specs.Prelude.{None, Some}
 use Rattle.slot.specs.declared.Slot.{Slot}
 use Rattle.slot.specs.Slots.{closed_slot, open_slot, slot_at, is_closed, has_key, place}
 use Rattle.slot.specs.Sound.{key_in_range, any}
@@ -201,9 +202,9 @@ RoundTripOnCalls =
 -- ---- refusals: "Nothing is written and the state handed back is the one handed in, except the idle slot after 7 and 8."
 
 -- an open slot becomes idle
-abbrev pub idled : Occupancy → Slot
-idled Closed = closed_slot
-idled (Open stream) = open_slot stream.key Idle
+abbrev pub idled : Option Stream → Slot
+idled None = closed_slot
+idled (Some stream) = open_slot stream.key Idle
 
 -- the station that a call refused by n hands back, where it concerned slot i
 unfoldable pub left_by : (n : ℕ) → Station → (i : ℕ) → Station

@@ -11,8 +11,9 @@ use Rattle.stream.specs.declared.Progress.TheVariants.{Idle}
 use Rattle.stream.specs.Answers.{Reply, filtered, meaning}
 use Rattle.stream.specs.Step.{Next, step}
 use Rattle.slot.specs.declared.Key.{Key}
-use Rattle.slot.specs.declared.Occupancy.{Occupancy}
-use Rattle.slot.specs.declared.Occupancy.TheVariants.{Closed, Open}
+use Rattle.std.specs.Prelude.{Option}
+use Rattle.slot.specs.declared.Stream.{Stream}
+use Rattle.std.specs.Prelude.{None, Some}
 use Rattle.slot.specs.declared.Slot.{Slot}
 use Rattle.slot.specs.Slots.{open_slot, slot_at, has_key, place}
 use Rattle.station.specs.declared.Station.{Station}
@@ -34,9 +35,9 @@ abbrev pub key_of : ℕ → Frame → Key
 key_of bus frame = record { bus = bus; fields = frame.fields }
 
 -- the progress of an open slot; a closed one has none, for which Idle stands
-abbrev pub progress_in : Occupancy → Progress
-progress_in Closed = Idle
-progress_in (Open stream) = stream.progress
+abbrev pub progress_in : Option Stream → Progress
+progress_in None = Idle
+progress_in (Some stream) = stream.progress
 
 abbrev pub progress_of : Slot → Progress
 progress_of slot = progress_in slot.occupancy

@@ -12,9 +12,9 @@ ghost use Rattle.station.specs.Parts.{refused_as, frame_of, Steps};
 ghost use Rattle.station.specs.Demands as demands;
 ghost use Rattle.station.specs.Bounds.{StationBounds};
 
-use format::{Format, Outcome, Refusal};
-use frame::{Head, Verdict, judge};
-use slot::{Key, Occupancy, Slot, Stream, first_closed, key_in_range, seek, sound};
+use format::{Format, Refusal};
+use frame::{Head, judge};
+use slot::{Key, Slot, Stream, first_closed, key_in_range, seek, sound};
 use stream::{Answer, Area, Progress, step};
 
 #[derive(Clone, Copy)]
@@ -35,7 +35,7 @@ impl Store {
 #[derive(Clone, Copy)]
 pub struct Received {
     pub station: Station,
-    pub answer: Answer,
+    pub answer: Result<Answer, Refusal>,
 }
 
 // One receiving turn over the bare slots: a slot, what it becomes, and the answer.
@@ -43,23 +43,23 @@ pub struct Received {
 pub struct Turn {
     pub at: usize,
     pub slot: Slot,
-    pub answer: Answer,
+    pub answer: Result<Answer, Refusal>,
 }
 
 // What opening and closing hand back: the next station, and the slot's number or a refusal.
 #[derive(Clone, Copy)]
 pub struct Changed {
     pub station: Station,
-    pub answer: Outcome,
+    pub answer: Result<usize, Refusal>,
 }
 
 // The progress of an open slot; Idle for a closed one, which has none.
-pub fn progress_in(occupancy: Occupancy) -> Progress
+pub fn progress_in(occupancy: Option<Stream>) -> Progress
     ensures { result ≡ progress_in occupancy }
 {
     match occupancy {
-        Occupancy::Closed => Progress::Idle,
-        Occupancy::Open(stream) => stream.progress,
+        None => Progress::Idle,
+        Some(stream) => stream.progress,
     }
 }
 
@@ -72,7 +72,7 @@ pub fn open_slot(key: Key, progress: Progress) -> Slot
         progress: progress,
     };
     Slot {
-        occupancy: Occupancy::Open(stream),
+        occupancy: Some(stream),
     }
 }
 
@@ -80,7 +80,7 @@ fn closed_slot() -> Slot
     ensures { result ≡ closed_slot }
 {
     Slot {
-        occupancy: Occupancy::Closed,
+        occupancy: None,
     }
 }
 
@@ -143,7 +143,7 @@ fn step_at(
 }
 
 // No slot is concerned; some slot has to stand in the turn.
-fn unchanged(slot: Slot, answer: Answer) -> Turn
+fn unchanged(slot: Slot, answer: Result<Answer, Refusal>) -> Turn
     ensures { result ≡ record { at = 16; slot = slot; answer = answer } }
 {
     Turn {
@@ -160,27 +160,27 @@ pub fn take_turn(format: Format, slots: [Slot; 16], store: &mut [u8], bus: u8, i
 {
     let first = slots[0];
     match judge(format, image) {
-        Verdict::Refused(own) => {
+        Err(own) => {
             let name = refused_as(format, slots, store.len(), bus, own);
-            unchanged(first, Answer::Refused(name))
+            unchanged(first, Err(name))
         }
-        Verdict::Sound(head) => {
+        Ok(head) => {
             let fields = head.fields;
             let key = Key {
                 bus: bus,
                 fields: fields,
             };
             match seek(format, slots, key) {
-                Outcome::Refused(name) => unchanged(first, Answer::Refused(name)),
-                Outcome::Value(i) => {
+                Err(name) => unchanged(first, Err(name)),
+                Ok(i) => {
                     if store.len() != Store::SIZE {
-                        return unchanged(first, Answer::Refused(Refusal::Store));
+                        return unchanged(first, Err(Refusal::Store));
                     }
                     if bus > 1 {
-                        return unchanged(first, Answer::Refused(Refusal::Field));
+                        return unchanged(first, Err(Refusal::Field));
                     }
                     if i >= 16 {
-                        return unchanged(first, Answer::Filtered);
+                        return unchanged(first, Ok(Answer::Filtered));
                     }
                     let slot = slots[i];
                     step_at(format, slot, i, bus, head, image, store)
@@ -199,8 +199,8 @@ fn open_at(slots: [Slot; 16], i: usize) -> bool
     let slot = slots[i];
     let occupancy = slot.occupancy;
     match occupancy {
-        Occupancy::Closed => false,
-        Occupancy::Open(_) => true,
+        None => false,
+        Some(_) => true,
     }
 }
 
@@ -243,35 +243,35 @@ impl Station {
         let format = self.format;
         let slots = self.slots;
         match seek(format, slots, key) {
-            Outcome::Refused(name) => Changed {
+            Err(name) => Changed {
                 station: self,
-                answer: Outcome::Refused(name),
+                answer: Err(name),
             },
-            Outcome::Value(i) => {
+            Ok(i) => {
                 if !key_in_range(format, key) {
                     return Changed {
                         station: self,
-                        answer: Outcome::Refused(Refusal::Field),
+                        answer: Err(Refusal::Field),
                     };
                 }
                 if i < 16 {
                     return Changed {
                         station: self,
-                        answer: Outcome::Refused(Refusal::Taken),
+                        answer: Err(Refusal::Taken),
                     };
                 }
                 let lowest = first_closed(slots);
                 if lowest >= 16 {
                     return Changed {
                         station: self,
-                        answer: Outcome::Refused(Refusal::Full),
+                        answer: Err(Refusal::Full),
                     };
                 }
                 let slot = open_slot(key, Progress::Idle);
                 self.slots[lowest] = slot;
                 Changed {
                     station: self,
-                    answer: Outcome::Value(lowest),
+                    answer: Ok(lowest),
                 }
             }
         }
@@ -288,48 +288,48 @@ impl Station {
         if !all_sound {
             return Changed {
                 station: self,
-                answer: Outcome::Refused(Refusal::State),
+                answer: Err(Refusal::State),
             };
         }
         if !is_open {
             return Changed {
                 station: self,
-                answer: Outcome::Refused(Refusal::Closed),
+                answer: Err(Refusal::Closed),
             };
         }
         let slot = closed_slot();
         self.slots[i] = slot;
         Changed {
             station: self,
-            answer: Outcome::Value(i),
+            answer: Ok(i),
         }
     }
 
     // The length of the packet of a slot that is done, or a refusal: STATE, STORE, CLOSED,
     // NOPACKET.
-    pub fn read_length(self, store: &[u8], i: usize) -> Outcome
+    pub fn read_length(self, store: &[u8], i: usize) -> Result<usize, Refusal>
         ensures { meaning result ≡ length_of (reading self store.now i) }
     {
         let format = self.format;
         let slots = self.slots;
         if !sound(format, slots) {
-            return Outcome::Refused(Refusal::State);
+            return Err(Refusal::State);
         }
         let lent = store.len();
         if lent != Store::SIZE {
-            return Outcome::Refused(Refusal::Store);
+            return Err(Refusal::Store);
         }
         if !open_at(slots, i) {
-            return Outcome::Refused(Refusal::Closed);
+            return Err(Refusal::Closed);
         }
         let slot = slots[i];
         let occupancy = slot.occupancy;
         match progress_in(occupancy) {
-            Progress::Idle => Outcome::Refused(Refusal::NoPacket),
-            Progress::Collecting(_) => Outcome::Refused(Refusal::NoPacket),
+            Progress::Idle => Err(Refusal::NoPacket),
+            Progress::Collecting(_) => Err(Refusal::NoPacket),
             Progress::Done(h) => {
                 let length = h as usize;
-                Outcome::Value(length)
+                Ok(length)
             }
         }
     }
@@ -341,8 +341,8 @@ impl Station {
         ensures ref_ptr_value { result.ref_ptr ≡ (store.entry.ref_ptr.0, place_of (reading self store.now i) store.entry.ref_ptr.1 i) }
     {
         match self.read_length(store, i) {
-            Outcome::Refused(_) => &store[..0],
-            Outcome::Value(h) => {
+            Err(_) => &store[..0],
+            Ok(h) => {
                 let from = Area::SIZE * i;
                 let to = from + h;
                 &store[from..to]

@@ -16,14 +16,17 @@ use Rattle.format.specs.Refusals.{value, refused, number, checked_then}
 use Rattle.format.specs.Tests.{all_true}
 use Rattle.format.proofs.Tests.{each}
 use Rattle.frame.specs.Judge.{Judged, judge}
+use Rattle.format.specs.Refusals.{Returned}
 use Rattle.stream.specs.declared.Answer.{Answer}
-use Rattle.stream.specs.declared.Answer.TheVariants.{Refused, Filtered}
+use Rattle.stream.specs.declared.Answer.TheVariants.{Filtered}
+use Rattle.std.specs.Prelude.{Err, Ok}
 use Rattle.stream.specs.declared.Progress.{Progress}
 use Rattle.stream.specs.Answers.{meaning}
 use Rattle.stream.specs.Step.{step}
 use Rattle.slot.specs.declared.Key.{Key}
-use Rattle.slot.specs.declared.Occupancy.{Occupancy}
-use Rattle.slot.specs.declared.Occupancy.TheVariants.{Closed, Open}
+use Rattle.std.specs.Prelude.{Option}
+use Rattle.slot.specs.declared.Stream.{Stream}
+use Rattle.std.specs.Prelude.{None, Some}
 use Rattle.slot.specs.declared.Slot.{Slot}
 use Rattle.slot.specs.Slots.{closed_slot, open_slot, slot_at, open_with, has_key, place}
 use Rattle.slot.specs.Sound.{key_in_range, slots_sound, sound}
@@ -77,20 +80,20 @@ held_in : (b : Bool) (key k : Key) (progress : Progress) → has_key key (cond b
 held_in true key k progress e = absurd (false≢true e)
 held_in false key k progress e = refl
 
-first_in : (o : Occupancy) (key : Key) → open_with key o ≡ true → key_code key ≡ first_of o
-first_in Closed key e = absurd (false≢true e)
-first_in (Open stream) key e = ap key_code (sym (same_key_lem stream.key key e))
+first_in : (o : Option Stream) (key : Key) → open_with key o ≡ true → key_code key ≡ first_of o
+first_in None key e = absurd (false≢true e)
+first_in (Some stream) key e = ap key_code (sym (same_key_lem stream.key key e))
 
 -- ---- receiving
 
 -- the bytes are no sound station's
 pub receive_state : (state codes : List ℕ) (r : Bool) → Tested state r codes → r ≡ false → (store : List ℕ) (bus : ℕ) (image : List ℕ)
-    → bytes_after (Refused refusal.State) state store ≡ receive_in state store bus image
+    → bytes_after (Err refusal.State) state store ≡ receive_in state store bus image
 unfolding receive_in receiving.receive checked_then
 receive_state state codes r t e store bus image = go (is_state state) refl
   where
     go : (b : Bool) → is_state state ≡ b
-        → bytes_after (Refused refusal.State) state store
+        → bytes_after (Err refusal.State) state store
         ≡ cond b (in_bytes (receiving.receive (station_in state) store bus image)) (record { answer = refused (number refusal.State); state = state; store = store })
     go false i = refl
     go true i =
@@ -121,7 +124,7 @@ module _ (state codes : List ℕ) (s : Sound state codes) where
     as-station after e = rw s.is (ap in_bytes e)
 
     -- no slot changes
-    kept : (answer : Answer) → unmoved format slots store bus image (names_none slots sixteen) answer ≡ receiving.receive (station_in state) store bus image
+    kept : (answer : Returned Answer) → unmoved format slots store bus image (names_none slots sixteen) answer ≡ receiving.receive (station_in state) store bus image
         → bytes_after answer state store ≡ receive_in state store bus image
     kept answer e =
         let l = names_none slots sixteen in
@@ -129,27 +132,27 @@ module _ (state codes : List ℕ) (s : Sound state codes) where
         (sym s.same ∙ ap (λ (slots : List Slot). state_bytes (station_of format slots)) (sym l.kept))
         ∙ as-station _ e
 
-    pub receive-store : length store ≢ 32768 → bytes_after (Refused refusal.Store) state store ≡ receive_in state store bus image
-    receive-store w = kept (Refused refusal.Store) (at_store format slots store bus image (names_none slots sixteen) s.ok w)
+    pub receive-store : length store ≢ 32768 → bytes_after (Err refusal.Store) state store ≡ receive_in state store bus image
+    receive-store w = kept (Err refusal.Store) (at_store format slots store bus image (names_none slots sixteen) s.ok w)
 
     module _ (w : length store ≡ 32768) where
-      pub receive-field : 1 < bus → bytes_after (Refused refusal.Field) state store ≡ receive_in state store bus image
-      receive-field b = kept (Refused refusal.Field) (at_field format slots store bus image (names_none slots sixteen) s.ok w b)
+      pub receive-field : 1 < bus → bytes_after (Err refusal.Field) state store ≡ receive_in state store bus image
+      receive-field b = kept (Err refusal.Field) (at_field format slots store bus image (names_none slots sixteen) s.ok w b)
 
       module _ (b : bus ≤ 1) where
         own_name : (own : Refusal) → refused_as format slots (length store) bus own ≡ own
         unfolding refused_as
         own_name own = rw (s.ok, eq-eqb (length store) 32768 w, le-leb bus 1 b)
 
-        pub receive-image : (own : Refusal) → refused (number own) ≡ judge format image → bytes_after (Refused own) state store ≡ receive_in state store bus image
+        pub receive-image : (own : Refusal) → refused (number own) ≡ judge format image → bytes_after (Err own) state store ≡ receive_in state store bus image
         receive-image own e =
             let l = names_none slots sixteen in
-            kept (Refused own)
-            (ap (λ (name : Refusal). unmoved format slots store bus image l (Refused name)) (sym (own_name own)) ∙ at-image format slots store bus image l own e)
+            kept (Err own)
+            (ap (λ (name : Refusal). unmoved format slots store bus image l (Err name)) (sym (own_name own)) ∙ at-image format slots store bus image l own e)
 
         module _ (judged : Judged) (e : value judged ≡ judge format image) (i : ℕ) (p : place (has_key (key_of bus judged.frame)) slots ≡ i) where
-          pub receive-none : 16 ≤ i → bytes_after Filtered state store ≡ receive_in state store bus image
-          receive-none h = kept Filtered (at_none format slots store bus image (names_none slots sixteen) s.ok w b judged e i p h)
+          pub receive-none : 16 ≤ i → bytes_after (Ok Filtered) state store ≡ receive_in state store bus image
+          receive-none h = kept (Ok Filtered) (at_none format slots store bus image (names_none slots sixteen) s.ok w b judged e i p h)
 
           -- the slot of the key steps
           module _ (h : i < 16) where
@@ -171,7 +174,7 @@ module _ (state codes : List ℕ) (s : Sound state codes) where
             its-first : key_code key ≡ first_of (slot_at slots i).occupancy
             its-first = first_in (slot_at slots i).occupancy key has-it
 
-            pub receive-step : (f : Format) → f ≡ format → (answer : Answer) (lastState lastStore : List ℕ) → StepsIn f i judged.frame state store answer lastState lastStore
+            pub receive-step : (f : Format) → f ≡ format → (answer : Returned Answer) (lastState lastStore : List ℕ) → StepsIn f i judged.frame state store answer lastState lastStore
                 → bytes_after answer lastState lastStore ≡ receive_in state store bus image
             unfolding key
             receive-step f ef answer lastState lastStore u =

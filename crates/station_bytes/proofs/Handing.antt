@@ -12,7 +12,7 @@ use Rattle.copying.specs.Copy.{copied}
 use Rattle.format.specs.declared.Format.{Format}
 use Rattle.format.specs.declared.Format.TheVariants.{Extended, Standard}
 use Rattle.format.specs.declared.Refusal.TheVariants as refusal
-use Rattle.format.specs.declared.Outcome.TheVariants.{Value, Refused}
+use Rattle.std.specs.Prelude.{Err, Ok}
 use Rattle.format.specs.Refusals.{Result, value, refused, number}
 use Rattle.format.specs.Formats.{format_of}
 use Rattle.format.specs.Tests.{all_true}
@@ -71,13 +71,13 @@ module _ (state codes : List ℕ) (r : Bool) (t : Tested state r codes) (e : r �
       go false i = refl
       go true i = refused_as_lem state (t.same i) 21 given (f (unsound state codes r t e i))
 
-  pub open_state : (key : Key) → state_after (Refused refusal.State) state ≡ open_in state key
+  pub open_state : (key : Key) → state_after (Err refusal.State) state ≡ open_in state key
   unfolding open_in
   open_state key =
       not_sound (opening (station_in state) key)
       (λ s. station.open_state (station_in state) key refusal.State (sought_unsound (format_at state) (slots_from (format_at state) state 0 16) key s))
 
-  pub close_state : (i : ℕ) → state_after (Refused refusal.State) state ≡ close_in state i
+  pub close_state : (i : ℕ) → state_after (Err refusal.State) state ≡ close_in state i
   unfolding close_in
   close_state i = not_sound (closing (station_in state) i) (λ s. station.close_state (station_in state) i s)
 
@@ -120,11 +120,11 @@ module _ (state codes : List ℕ) (s : Sound state codes) where
       cc
 
   module _ (key : Key) where
-    pub open-field : key_in_range format key ≡ false → state_after (Refused refusal.Field) state ≡ open_in state key
+    pub open-field : key_in_range format key ≡ false → state_after (Err refusal.Field) state ≡ open_in state key
     open-field r = refused_as_lem state s.same 9 _ (station.open-field (station_in state) key s.ok r) ∙ sym (open_is key)
 
     module _ (r : key_in_range format key ≡ true) (k : ℕ) (p : place (has_key key) slots ≡ k) where
-      pub open-taken : k < 16 → state_after (Refused refusal.Taken) state ≡ open_in state key
+      pub open-taken : k < 16 → state_after (Err refusal.Taken) state ≡ open_in state key
       open-taken h =
           refused_as_lem state s.same 14 _ (station.open-taken (station_in state) key s.ok r (omega (arith, p, h))) ∙ sym (open_is key)
 
@@ -132,13 +132,13 @@ module _ (state codes : List ℕ) (s : Sound state codes) where
         none : 16 ≤ place (has_key key) slots
         none = omega (arith, p, f)
 
-        pub open_full : 16 ≤ i → state_after (Refused refusal.Full) state ≡ open_in state key
+        pub open_full : 16 ≤ i → state_after (Err refusal.Full) state ≡ open_in state key
         open_full h =
             refused_as_lem state s.same 15 _ (station.open_full (station_in state) key s.ok r none (omega (arith, e, h))) ∙ sym (open_is key)
 
         pub open-lowest : i < 16 → (last : List ℕ) (n : ℕ) → n ≡ key_code key
             → last ≡ copied (copied state (8 * i) (word_bytes n)) (8 * i + 4) (word_bytes 65536)
-            → state_after (Value i) last ≡ open_in state key
+            → state_after (Ok i) last ≡ open_in state key
         open-lowest h last n en el =
             ap (λ (l : List ℕ). record { answer = value i; state = l }) (el ∙ put_slot i h (open_slot key Idle) n 65536 en refl)
             ∙ ap as_state (station.open-lowest (station_in state) key s.ok r none i e h)
@@ -159,14 +159,14 @@ module _ (state codes : List ℕ) (s : Sound state codes) where
   pub yes_open : (i n : ℕ) → i < 16 → n ≡ word_at state (8 * i + 4) → eqb n 0 ≡ false → is_open slots i ≡ true
   yes_open i n h e q = told_open i h ∙ ap not (ap (λ (m : ℕ). eqb m 0) (sym e) ∙ q)
 
-  pub close_closed : (i : ℕ) → is_open slots i ≡ false → state_after (Refused refusal.Closed) state ≡ close_in state i
+  pub close_closed : (i : ℕ) → is_open slots i ≡ false → state_after (Err refusal.Closed) state ≡ close_in state i
   close_closed i o = refused_as_lem state s.same 16 _ (station.close_closed (station_in state) i s.ok o) ∙ sym (close_is i)
 
-  pub close_over : (i : ℕ) → 16 ≤ i → state_after (Refused refusal.Closed) state ≡ close_in state i
+  pub close_over : (i : ℕ) → 16 ≤ i → state_after (Err refusal.Closed) state ≡ close_in state i
   close_over i h = close_closed i (over_15 i h)
 
   pub close_open : (i : ℕ) → i < 16 → is_open slots i ≡ true → (last : List ℕ)
-      → last ≡ copied (copied state (8 * i) (word_bytes 0)) (8 * i + 4) (word_bytes 0) → state_after (Value i) last ≡ close_in state i
+      → last ≡ copied (copied state (8 * i) (word_bytes 0)) (8 * i + 4) (word_bytes 0) → state_after (Ok i) last ≡ close_in state i
   close_open i h o last el =
       ap (λ (l : List ℕ). record { answer = value i; state = l }) (el ∙ put_slot i h closed_slot 0 0 refl refl)
       ∙ ap as_state (station.close_open (station_in state) i s.ok o)

@@ -23,8 +23,9 @@ use Rattle.frame.specs.Claims.{Bytes}
 use Rattle.stream.specs.declared.Progress.{Progress}
 use Rattle.stream.specs.declared.Progress.TheVariants.{Idle, Collecting, Done}
 use Rattle.slot.specs.declared.Key.{Key}
-use Rattle.slot.specs.declared.Occupancy.{Occupancy}
-use Rattle.slot.specs.declared.Occupancy.TheVariants.{Closed, Open}
+use Rattle.std.specs.Prelude.{Option}
+use Rattle.slot.specs.declared.Stream.{Stream}
+use Rattle.std.specs.Prelude.{None, Some}
 use Rattle.slot.specs.declared.Slot.{Slot}
 use Rattle.slot.specs.Sound.{key_in_range, fits, slot_sound, slots_sound, sound}
 use Rattle.slot.specs.Codes.{key_code}
@@ -149,16 +150,16 @@ progress_back (Done h) l =
 
 -- ---- records
 
-record Record (format : Format) (o : Occupancy) : Type 0 where
+record Record (format : Format) (o : Option Stream) : Type 0 where
   pub first : first_of o < 2 ^ 32
   pub second : second_of o < 2 ^ 32
   pub slot : slot_in format (first_of o) (second_of o) ≡ record { occupancy = o }
   pub written : slot_written format (first_of o) (second_of o) ≡ true
 
-record_back : (format : Format) (o : Occupancy) → slot_sound format o ≡ true → Record format o
+record_back : (format : Format) (o : Option Stream) → slot_sound format o ≡ true → Record format o
 unfolding slot_sound
-record_back format Closed e = record { first = omega arith; second = omega arith; slot = refl; written = refl }
-record_back format (Open stream) e =
+record_back format None e = record { first = omega arith; second = omega arith; slot = refl; written = refl }
+record_back format (Some stream) e =
     let t = each _ e in
     let k = key_back format stream.key.bus stream.key.fields t.0 in
     let p = progress_back stream.progress (within format stream.progress t.1.0) in

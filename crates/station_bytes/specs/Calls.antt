@@ -4,9 +4,10 @@
 use Rattle.std.specs.Prelude.{ℕ, cond, List, eqb, length}
 use Rattle.format.specs.declared.Format.{Format}
 use Rattle.format.specs.declared.Refusal.TheVariants.{State}
-use Rattle.format.specs.declared.Outcome.{Outcome}
+use Rattle.format.specs.Refusals.{Returned}
 use Rattle.format.specs.Refusals as outcomes
 use Rattle.format.specs.Refusals.{Result, value, refused, number}
+use Rattle.format.specs.Refusals.{Returned}
 use Rattle.stream.specs.declared.Answer.{Answer}
 use Rattle.stream.specs.Answers.{Reply, meaning}
 use Rattle.slot.specs.declared.Key.{Key}
@@ -57,8 +58,8 @@ unfoldable pub read_in : (state store : List ℕ) → ℕ → Result (List ℕ)
 read_in state store i = cond (is_state state) (reading.reading (station_in state) store i) (refused (number State))
 
 -- what the code's answers, and the bytes afterwards, say
-abbrev pub bytes_after : Answer → (state store : List ℕ) → BytesAfter
+abbrev pub bytes_after : Returned Answer → (state store : List ℕ) → BytesAfter
 bytes_after answer state store = record { answer = meaning answer; state = state; store = store }
 
-abbrev pub state_after : Outcome → List ℕ → StateAfter
+abbrev pub state_after : Returned ℕ → List ℕ → StateAfter
 state_after outcome state = record { answer = outcomes.meaning outcome; state = state }

@@ -6,6 +6,7 @@ use Rattle.slot.specs.Sound.{key_in_range, fits, slot_sound}
 use Rattle.slot.specs.Codes.{key_code, codes_from}
 use Rattle.copying.specs.Copy.{copied}
 use Rattle.frame.specs.Judge.{Frame}
+use Rattle.format.specs.Refusals.{Returned}
 use Rattle.stream.specs.declared.Answer.{Answer}
 use Rattle.stream.specs.Answers.{meaning}
 use Rattle.stream.specs.Step.{step}
@@ -50,7 +51,7 @@ pub record Tested (state : List ℕ) (r : Bool) (codes : List ℕ) : Type 0 wher
   pub sixteen : length codes ≡ 16
 
 -- the stream of slot i steps
-pub record StepsIn (format : Format) (i : ℕ) (frame : Frame) (state store : List ℕ) (answer : Answer) (lastState lastStore : List ℕ) : Type 0 where
+pub record StepsIn (format : Format) (i : ℕ) (frame : Frame) (state store : List ℕ) (answer : Returned Answer) (lastState lastStore : List ℕ) : Type 0 where
   pub told : meaning answer ≡ (step format (progress_from (word_at state (8 * i + 4))) (area store i) frame).answer
   pub state' : lastState
       ≡ copied state (8 * i + 4) (word_bytes (progress_number (step format (progress_from (word_at state (8 * i + 4))) (area store i) frame).progress))

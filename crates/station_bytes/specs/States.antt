@@ -11,8 +11,9 @@ use Rattle.format.specs.Tests.{all_true}
 use Rattle.stream.specs.declared.Progress.{Progress}
 use Rattle.stream.specs.declared.Progress.TheVariants.{Idle, Collecting, Done}
 use Rattle.slot.specs.declared.Key.{Key}
-use Rattle.slot.specs.declared.Occupancy.{Occupancy}
-use Rattle.slot.specs.declared.Occupancy.TheVariants.{Closed, Open}
+use Rattle.std.specs.Prelude.{Option}
+use Rattle.slot.specs.declared.Stream.{Stream}
+use Rattle.std.specs.Prelude.{None, Some}
 use Rattle.slot.specs.declared.Slot.{Slot}
 use Rattle.slot.specs.Slots.{closed_slot, open_slot}
 use Rattle.slot.specs.Codes.{key_code}
@@ -33,13 +34,13 @@ progress_number (Done h) = 196608 + h
 
 -- the two numbers of a record: the key's is `key_code`, from the lowest bit priority (2 bits), function (5), bus (1), then source, group and
 -- destination, a byte each; in standard priority (2), 0 (5), bus (1), address (6), 01, and side from bit 16 on
-abbrev pub first_of : Occupancy → ℕ
-first_of Closed = 0
-first_of (Open stream) = key_code stream.key
+abbrev pub first_of : Option Stream → ℕ
+first_of None = 0
+first_of (Some stream) = key_code stream.key
 
-abbrev pub second_of : Occupancy → ℕ
-second_of Closed = 0
-second_of (Open stream) = progress_number stream.progress
+abbrev pub second_of : Option Stream → ℕ
+second_of None = 0
+second_of (Some stream) = progress_number stream.progress
 
 abbrev pub slot_bytes : Slot → List ℕ
 slot_bytes slot = word_bytes (first_of slot.occupancy) ++ word_bytes (second_of slot.occupancy)

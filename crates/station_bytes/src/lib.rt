@@ -16,8 +16,8 @@ ghost use Rattle.station_bytes.specs.Claims as claims;
 ghost use Rattle.station_bytes.specs.Bounds.{StateBounds};
 
 use copying::copy_in;
-use format::{Extended, Format, Outcome, Refusal, Standard};
-use frame::{Head, Verdict, judge};
+use format::{Extended, Format, Refusal, Standard};
+use frame::{Head, judge};
 use slot::{Key, MostHeld, clash, find_key, key_in_range, key_number};
 use station::Store;
 use stream::{Answer, Area, Progress, step};
@@ -221,7 +221,7 @@ fn step_at(
     image: &[u8],
     state: &mut [u8],
     store: &mut [u8],
-) -> Answer
+) -> Result<Answer, Refusal>
     requires { (i < 16) × (length state.old ≡ 130) × (length store.old ≡ 32768) × (head.start ≤ length image.now) × (length image.now - head.start ≤ 8) }
     ensures { StepsIn format i (frame_of head image.now) state.old store.old result state.new store.new }
 {
@@ -245,23 +245,23 @@ fn step_at(
 }
 
 // Receives an image on a bus, as Station::receive does, with the same answers.
-pub fn receive(state: &mut [u8], store: &mut [u8], bus: u8, image: &[u8]) -> Answer
+pub fn receive(state: &mut [u8], store: &mut [u8], bus: u8, image: &[u8]) -> Result<Answer, Refusal>
     ensures { bytes_after result state.new store.new ≡ receive_in state.old store.old bus image.now }
 {
     let mut codes = [0u32; 16];
     if !sound_codes(state, &mut codes) {
-        return Answer::Refused(Refusal::State);
+        return Err(Refusal::State);
     }
     if store.len() != Store::SIZE {
-        return Answer::Refused(Refusal::Store);
+        return Err(Refusal::Store);
     }
     if bus > 1 {
-        return Answer::Refused(Refusal::Field);
+        return Err(Refusal::Field);
     }
     let format = format_of(state[128]);
     match judge(format, image) {
-        Verdict::Refused(name) => Answer::Refused(name),
-        Verdict::Sound(head) => {
+        Err(name) => Err(name),
+        Ok(head) => {
             let fields = head.fields;
             let key = Key {
                 bus: bus,
@@ -269,7 +269,7 @@ pub fn receive(state: &mut [u8], store: &mut [u8], bus: u8, image: &[u8]) -> Ans
             };
             let i = find_key(format, &codes, key);
             if i >= 16 {
-                return Answer::Filtered;
+                return Ok(Answer::Filtered);
             }
             step_at(format, i, head, image, state, store)
         }
@@ -277,17 +277,17 @@ pub fn receive(state: &mut [u8], store: &mut [u8], bus: u8, image: &[u8]) -> Ans
 }
 
 // Makes the bytes those of a new station of a format, with every slot closed, and answers 0, or refuses: STATE.
-pub fn new(state: &mut [u8], format: Format) -> Outcome
+pub fn new(state: &mut [u8], format: Format) -> Result<usize, Refusal>
     ensures { state_after result state.new ≡ renewed state.old format }
 {
     if state.len() != State::SIZE {
-        return Outcome::Refused(Refusal::State);
+        return Err(Refusal::State);
     }
     let mut bytes = [0u8; State::SIZE];
     bytes[128] = number_of(format);
     bytes[129] = State::LAYOUT;
     copy_in(state, 0, &bytes);
-    Outcome::Value(0)
+    Ok(0)
 }
 
 // The first slot whose record is a closed one's, 16 if there is none.
@@ -315,71 +315,71 @@ fn put_record(state: &mut [u8], i: usize, first: u32, second: u32)
 }
 
 // Opens a key in the lowest closed slot and answers that slot's number, or refuses: STATE, FIELD, TAKEN, FULL.
-pub fn open(state: &mut [u8], key: Key) -> Outcome
+pub fn open(state: &mut [u8], key: Key) -> Result<usize, Refusal>
     ensures { state_after result state.new ≡ open_in state.old key }
 {
     let mut codes = [0u32; 16];
     if !sound_codes(state, &mut codes) {
-        return Outcome::Refused(Refusal::State);
+        return Err(Refusal::State);
     }
     let format = format_of(state[128]);
     if !key_in_range(format, key) {
-        return Outcome::Refused(Refusal::Field);
+        return Err(Refusal::Field);
     }
     if find_key(format, &codes, key) < 16 {
-        return Outcome::Refused(Refusal::Taken);
+        return Err(Refusal::Taken);
     }
     let i = first_closed(state);
     if i >= 16 {
-        return Outcome::Refused(Refusal::Full);
+        return Err(Refusal::Full);
     }
     put_record(state, i, key_number(key), 65536);
-    Outcome::Value(i)
+    Ok(i)
 }
 
 // Closes a slot and answers its number, or refuses: STATE, CLOSED.
-pub fn close(state: &mut [u8], i: usize) -> Outcome
+pub fn close(state: &mut [u8], i: usize) -> Result<usize, Refusal>
     ensures { state_after result state.new ≡ close_in state.old i }
 {
     let mut codes = [0u32; 16];
     if !sound_codes(state, &mut codes) {
-        return Outcome::Refused(Refusal::State);
+        return Err(Refusal::State);
     }
     if i >= 16 {
-        return Outcome::Refused(Refusal::Closed);
+        return Err(Refusal::Closed);
     }
     if word_at(state, 8 * i + 4) == 0 {
-        return Outcome::Refused(Refusal::Closed);
+        return Err(Refusal::Closed);
     }
     put_record(state, i, 0, 0);
-    Outcome::Value(i)
+    Ok(i)
 }
 
 // The length of the packet of a slot that is done, or a refusal: STATE, STORE, CLOSED, NOPACKET. The packet
 // is the head of the slot's area.
-pub fn read_length(state: &[u8], store: &[u8], i: usize) -> Outcome
+pub fn read_length(state: &[u8], store: &[u8], i: usize) -> Result<usize, Refusal>
     ensures { meaning result ≡ length_of (read_in state.now store.now i) }
 {
     let mut codes = [0u32; 16];
     if !sound_codes(state, &mut codes) {
-        return Outcome::Refused(Refusal::State);
+        return Err(Refusal::State);
     }
     if store.len() != Store::SIZE {
-        return Outcome::Refused(Refusal::Store);
+        return Err(Refusal::Store);
     }
     if i >= 16 {
-        return Outcome::Refused(Refusal::Closed);
+        return Err(Refusal::Closed);
     }
     let number = word_at(state, 8 * i + 4);
     if number == 0 {
-        return Outcome::Refused(Refusal::Closed);
+        return Err(Refusal::Closed);
     }
     match progress_of(number) {
-        Progress::Idle => Outcome::Refused(Refusal::NoPacket),
-        Progress::Collecting(_) => Outcome::Refused(Refusal::NoPacket),
+        Progress::Idle => Err(Refusal::NoPacket),
+        Progress::Collecting(_) => Err(Refusal::NoPacket),
         Progress::Done(h) => {
             let length = h as usize;
-            Outcome::Value(length)
+            Ok(length)
         }
     }
 }

@@ -17,19 +17,18 @@ pub enum Progress {
     Done(u16),
 }
 
-// What a receiving call answers.
+// What a receiving call answers that is not refused.
 #[derive(Clone, Copy)]
 pub enum Answer {
     Packet { length: usize, broke: bool },
     Kept { broke: bool },
     Filtered,
-    Refused(Refusal),
 }
 
 // The answer at a frame, and the progress after it.
 #[derive(Clone, Copy)]
 pub struct Stepped {
-    pub answer: Answer,
+    pub answer: Result<Answer, Refusal>,
     pub progress: Progress,
 }
 
@@ -65,10 +64,10 @@ fn collecting(progress: Progress) -> bool
 }
 
 fn refuse(name: Refusal, progress: Progress) -> Stepped
-    ensures { result ≡ record { answer = Answer.Refused name; progress = progress } }
+    ensures { result ≡ record { answer = Err name; progress = progress } }
 {
     Stepped {
-        answer: Answer::Refused(name),
+        answer: Err(name),
         progress,
     }
 }
@@ -108,15 +107,15 @@ fn append(
     let end = hold(held, bytes, area);
     if last {
         return Stepped {
-            answer: Answer::Packet {
+            answer: Ok(Answer::Packet {
                 length: sum,
                 broke: false,
-            },
+            }),
             progress: Progress::Done(end),
         };
     }
     Stepped {
-        answer: Answer::Kept { broke: false },
+        answer: Ok(Answer::Kept { broke: false }),
         progress: Progress::Collecting(end),
     }
 }
@@ -160,7 +159,7 @@ fn advance(
         Flag::Start => {
             let n = hold(0, bytes, area);
             Stepped {
-                answer: Answer::Kept { broke },
+                answer: Ok(Answer::Kept { broke }),
                 progress: Progress::Collecting(n),
             }
         }
@@ -169,7 +168,7 @@ fn advance(
             let length = bytes.len();
             let n = hold(0, bytes, area);
             Stepped {
-                answer: Answer::Packet { length, broke },
+                answer: Ok(Answer::Packet { length, broke }),
                 progress: Progress::Done(n),
             }
         }

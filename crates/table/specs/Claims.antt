@@ -5,6 +5,7 @@ use Rattle.std.specs.Prelude.{ℕ, ◌≡◌, ◌≢◌, true, false, List, [], 
 use Rattle.format.specs.declared.Format.{Format}
 use Rattle.format.specs.declared.Refusal.TheVariants.{State}
 use Rattle.format.specs.Refusals.{Result, refused, number}
+use Rattle.format.specs.Refusals.{Returned}
 use Rattle.stream.specs.declared.Answer.{Answer}
 use Rattle.stream.specs.Answers.{Reply, meaning}
 use Rattle.slot.specs.declared.Slot.{Slot}
@@ -36,7 +37,7 @@ unfoldable pub AsFirst : Type 0
 AsFirst =
     (station : Station) (store : List ℕ) (bus : ℕ) (image : List ℕ)
     → (first : Received) (last : List ℕ) → after first last ≡ receive station store bus image
-    → (answer : Answer) (table : List Slot) (other : List ℕ)
+    → (answer : Returned Answer) (table : List Slot) (other : List ℕ)
     → Meets station.format station.slots store bus image (record { answer = meaning answer; table = table; store = other })
     → (answer ≡ first.answer) × (table ≡ first.station.slots) × (other ≡ last)
 

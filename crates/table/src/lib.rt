@@ -34,11 +34,11 @@ pub fn receive(
     store: &mut [u8],
     bus: u8,
     image: &[u8],
-) -> Answer
+) -> Result<Answer, Refusal>
     ensures { after_in format (meaning result) table.new store.new ≡ receive (station_of format table.old) store.old bus image.now }
 {
     if table.len() != 16 {
-        return Answer::Refused(Refusal::State);
+        return Err(Refusal::State);
     }
     let t = take_turn(format, load(table), store, bus, image);
     let at = t.at;
@@ -52,7 +52,7 @@ pub fn receive(
 #[derive(Clone, Copy)]
 pub struct Lent {
     pub table: [Slot; 16],
-    pub answer: Answer,
+    pub answer: Result<Answer, Refusal>,
 }
 
 // Lends a table of one's own to receive, for a caller that has the table by value, and hands it back.

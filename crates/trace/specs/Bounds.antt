@@ -8,6 +8,7 @@ use Rattle.format.specs.declared.Flag.TheVariants.{Start, Middle, End, Single}
 use Rattle.format.specs.declared.Refusal.TheVariants.{Remote, Count, Surplus, Orphan, State}
 use Rattle.format.specs.Refusals.{Result, value, refused}
 use Rattle.stream.specs.declared.Answer.TheVariants as answer
+use Rattle.std.specs.Prelude.{Ok, Err}
 use Rattle.trace.specs.declared.Line.{Line}
 use Rattle.trace.specs.declared.Line.TheVariants as line
 use Rattle.trace.specs.Records.{Found, whole, damaged, cut, none, record_at}
@@ -85,15 +86,15 @@ abbrev pub lines : List (Row Line (List ℕ))
 lines =
     row line.Header (ascii "record bus priority source group dest flag number function count answer\n")
     -- each flag, bus and answer
-    ∷ row (line.Frame 12 0 some Middle 62 8 (answer.Kept false)) (ascii "12 A 1 23 3 45 0 62 31 8 kept\n")
-    ∷ row (line.Frame 12 1 some Start 0 8 (answer.Kept true)) (ascii "12 B 1 23 3 45 1 0 31 8 kept broke\n")
-    ∷ row (line.Frame 12 1 some End 62 7 (answer.Packet 503 false)) (ascii "12 B 1 23 3 45 2 62 31 7 packet 503\n")
-    ∷ row (line.Frame 12 0 some Single 0 7 (answer.Packet 7 true)) (ascii "12 A 1 23 3 45 3 0 31 7 packet 7 broke\n")
-    ∷ row (line.Frame 12 0 some Single 0 7 answer.Filtered) (ascii "12 A 1 23 3 45 3 0 31 7 filtered\n")
-    ∷ row (line.Frame 12 0 some Middle 62 8 (answer.Refused Orphan)) (ascii "12 A 1 23 3 45 0 62 31 8 refused 6\n")
+    ∷ row (line.Frame 12 0 some Middle 62 8 (Ok (answer.Kept false))) (ascii "12 A 1 23 3 45 0 62 31 8 kept\n")
+    ∷ row (line.Frame 12 1 some Start 0 8 (Ok (answer.Kept true))) (ascii "12 B 1 23 3 45 1 0 31 8 kept broke\n")
+    ∷ row (line.Frame 12 1 some End 62 7 (Ok (answer.Packet 503 false))) (ascii "12 B 1 23 3 45 2 62 31 7 packet 503\n")
+    ∷ row (line.Frame 12 0 some Single 0 7 (Ok (answer.Packet 7 true))) (ascii "12 A 1 23 3 45 3 0 31 7 packet 7 broke\n")
+    ∷ row (line.Frame 12 0 some Single 0 7 (Ok answer.Filtered)) (ascii "12 A 1 23 3 45 3 0 31 7 filtered\n")
+    ∷ row (line.Frame 12 0 some Middle 62 8 (Err Orphan)) (ascii "12 A 1 23 3 45 0 62 31 8 refused 6\n")
     -- the least and the greatest values
-    ∷ row (line.Frame 0 0 (fields.Extended 0 0 0 0 0) Middle 0 0 (answer.Packet 0 false)) (ascii "0 A 0 0 0 0 0 0 0 0 packet 0\n")
-    ∷ row (line.Frame 18446744073709551615 1 greatest Single 63 8 (answer.Packet 18446744073709551615 true))
+    ∷ row (line.Frame 0 0 (fields.Extended 0 0 0 0 0) Middle 0 0 (Ok (answer.Packet 0 false))) (ascii "0 A 0 0 0 0 0 0 0 0 packet 0\n")
+    ∷ row (line.Frame 18446744073709551615 1 greatest Single 63 8 (Ok (answer.Packet 18446744073709551615 true)))
     (ascii "18446744073709551615 B 3 63 3 63 3 63 31 8 packet 18446744073709551615 broke\n")
     -- the other lines
     ∷ row (line.Refused 9 0 Remote) (ascii "9 A refused 3\n")
@@ -114,12 +115,12 @@ LineTexts = AllAs line_text lines
 
 abbrev pub ranges : List (Row Line Bool)
 ranges =
-    row (line.Frame 1 1 greatest Middle 63 8 (answer.Kept false)) true
-    ∷ row (line.Frame 1 2 greatest Middle 63 8 (answer.Kept false)) false
-    ∷ row (line.Frame 1 1 greatest Middle 64 8 (answer.Kept false)) false
-    ∷ row (line.Frame 1 1 greatest Middle 63 9 (answer.Kept false)) false
-    ∷ row (line.Frame 1 1 (fields.Extended 4 63 3 63 31) Middle 63 8 (answer.Kept false)) false
-    ∷ row (line.Frame 1 1 (fields.Standard 0 0 0) Middle 63 8 (answer.Kept false)) false
+    row (line.Frame 1 1 greatest Middle 63 8 (Ok (answer.Kept false))) true
+    ∷ row (line.Frame 1 2 greatest Middle 63 8 (Ok (answer.Kept false))) false
+    ∷ row (line.Frame 1 1 greatest Middle 64 8 (Ok (answer.Kept false))) false
+    ∷ row (line.Frame 1 1 greatest Middle 63 9 (Ok (answer.Kept false))) false
+    ∷ row (line.Frame 1 1 (fields.Extended 4 63 3 63 31) Middle 63 8 (Ok (answer.Kept false))) false
+    ∷ row (line.Frame 1 1 (fields.Standard 0 0 0) Middle 63 8 (Ok (answer.Kept false))) false
     ∷ row (line.Refused 1 1 Remote) true
     ∷ row (line.Refused 1 2 Remote) false
     ∷ []

@@ -13,7 +13,7 @@ ghost use Rattle.trace.specs.Parts.{Put};
 ghost use Rattle.trace.specs.Claims.{RoomForLine, Decimal, Arriving, Sized, OneEntry};
 ghost use Rattle.trace.specs.Bounds.{RecordBounds, LineTexts, LinesRefused};
 
-use format::{Fields, Flag, Outcome, Refusal};
+use format::{Fields, Flag, Refusal};
 use stream::Answer;
 
 // What stands at the head of a trace's bytes.
@@ -74,7 +74,7 @@ pub enum Line {
         flag: Flag,
         number: u8,
         count: u8,
-        answer: Answer,
+        answer: Result<Answer, Refusal>,
     },
     // A record whose image is refused by 1 to 5 or 25.
     Refused {
@@ -171,22 +171,22 @@ fn put_refused(text: &mut [u8], at: usize, name: Refusal) -> usize
     put_field(text, to, name.number() as u64)
 }
 
-fn put_answer(text: &mut [u8], at: usize, answer: Answer) -> usize
+fn put_answer(text: &mut [u8], at: usize, answer: Result<Answer, Refusal>) -> usize
     requires { at + 34 ≤ length text.old }
     ensures { Put text.old at (answer_text (reply·meaning answer)) result text.new }
 {
     match answer {
-        Answer::Packet { length, broke } => {
+        Ok(Answer::Packet { length, broke }) => {
             let to = put_word(text, at, b" packet");
             let to = put_field(text, to, length as u64);
             put_broke(text, to, broke)
         }
-        Answer::Kept { broke } => {
+        Ok(Answer::Kept { broke }) => {
             let to = put_word(text, at, b" kept");
             put_broke(text, to, broke)
         }
-        Answer::Filtered => put_word(text, at, b" filtered"),
-        Answer::Refused(name) => put_refused(text, at, name),
+        Ok(Answer::Filtered) => put_word(text, at, b" filtered"),
+        Err(name) => put_refused(text, at, name),
     }
 }
 
@@ -257,7 +257,7 @@ fn put_frame(
     flag: Flag,
     number: u8,
     count: u8,
-    answer: Answer,
+    answer: Result<Answer, Refusal>,
 ) -> usize
     requires { length text.old ≡ 96 }
     ensures { Put text.old 0 (frame_line ordinal bus fields flag number count (reply·meaning answer)) result text.new }
@@ -363,20 +363,20 @@ fn line_in_range(line: Line) -> bool
 }
 
 // Writes a line over the head of the output and answers its length, or refuses: FIELD, ROOM.
-pub fn write_line(line: Line, output: &mut [u8]) -> Outcome
+pub fn write_line(line: Line, output: &mut [u8]) -> Result<usize, Refusal>
     ensures result_value { outcome·meaning result ≡ answer (writing line (length output.old)) }
     ensures output_after { output.new ≡ output_after (writing line (length output.old)) output.old }
 {
     if !line_in_range(line) {
-        return Outcome::Refused(Refusal::Field);
+        return Err(Refusal::Field);
     }
     let mut text = [0u8; 96];
     let n = put_line(&mut text, line);
     if output.len() < n {
-        return Outcome::Refused(Refusal::Room);
+        return Err(Refusal::Room);
     }
     copying::copy_in(output, 0, &text[..n]);
-    Outcome::Value(n)
+    Ok(n)
 }
 
 // The claims of this crate. It does nothing: its contract ties each claim to its proof.

@@ -6,7 +6,7 @@ ghost use Rattle.std.specs.Prelude.{◌≡◌, if◌then◌else◌};
 ghost use Rattle.watch.specs.Watching.{new_watch, silent, hearing, checking, watch_after};
 ghost use Rattle.watch.specs.Claims as claims;
 
-use format::{Outcome, Refusal};
+use format::Refusal;
 
 // The last heard time of bus A and of bus B.
 #[derive(Clone, Copy)]
@@ -19,7 +19,7 @@ pub struct Watch {
 #[derive(Clone, Copy)]
 pub struct Heard {
     pub watch: Watch,
-    pub answer: Outcome,
+    pub answer: Result<usize, Refusal>,
 }
 
 // What a check hands back: the next watch, and whether bus A and bus B are to be reset.
@@ -69,18 +69,18 @@ impl Watch {
         if bus == 0 {
             return Heard {
                 watch: Watch { a: time, b: b },
-                answer: Outcome::Value(0),
+                answer: Ok(0),
             };
         }
         if bus == 1 {
             return Heard {
                 watch: Watch { a: a, b: time },
-                answer: Outcome::Value(1),
+                answer: Ok(1),
             };
         }
         Heard {
             watch: self,
-            answer: Outcome::Refused(Refusal::Field),
+            answer: Err(Refusal::Field),
         }
     }
 

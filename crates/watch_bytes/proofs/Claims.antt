@@ -9,7 +9,7 @@ use lib.Dec.{eqb}
 use lib.ListN.{length, get_or, drop, take-append-drop, drop_of_length-le}
 use lib.Seq.{take-add, drop-cons}
 use Rattle.format.specs.declared.Refusal.{Refusal}
-use Rattle.format.specs.declared.Outcome.TheVariants.{Refused}
+use Rattle.std.specs.Prelude.{Err}
 use Rattle.format.specs.Refusals.{value, refused, number, guarded, meaning}
 use Rattle.format.specs.Tests.{all_true}
 use Rattle.format.proofs.Tests.{each}
@@ -63,7 +63,7 @@ no_watches state bytes none bus time = (rw is_none, rw is_none)
 
 -- of bytes of a watch, what is refused leaves the watch, and so the bytes
 pub there : (state : List ℕ) → Bytes state → is_state state ≡ true → (bus time : ℕ) (heard : Heard) (name : Refusal)
-    → watching.watch_after heard ≡ watching.hearing (watch_in state) bus time → heard.answer ≡ Refused name → state_bytes heard.watch ≡ state
+    → watching.watch_after heard ≡ watching.hearing (watch_in state) bus time → heard.answer ≡ Err name → state_bytes heard.watch ≡ state
 unfolding watches.RefusedKeeps WrittenBack
 there state bytes s bus time heard name e r =
     let said = ap (λ (h : watching.WatchAfter). h.answer) (sym e) ∙ ap meaning r in

@@ -5,7 +5,7 @@
 -- watch's: it is refused as 21 (STATE), before all else, and the bytes stay.
 use Rattle.std.specs.Prelude.{ℕ, Bool, true, false, cond, List, [], ◌∷◌, ◌++◌, eqb, length, get_or}
 use Rattle.format.specs.declared.Refusal.TheVariants.{State}
-use Rattle.format.specs.declared.Outcome.{Outcome}
+use Rattle.format.specs.Refusals.{Returned}
 use Rattle.format.specs.Refusals.{Result, value, refused, number, meaning}
 use Rattle.format.specs.Tests.{all_true}
 use Rattle.words.specs.Words.{word_bytes, word_at}
@@ -67,5 +67,5 @@ unfoldable pub checking : List ℕ → (time : ℕ) → WatchBytesAfter
 checking state time = on_state state (checked_in_bytes (watching.checking (watch_in state) time))
 
 -- what the code's answer says, and the bytes afterwards
-abbrev pub watch_bytes_after : Outcome → List ℕ → WatchBytesAfter
+abbrev pub watch_bytes_after : Returned ℕ → List ℕ → WatchBytesAfter
 watch_bytes_after r state = record { answer = meaning r; state = state }

@@ -7,7 +7,7 @@ ghost use Rattle.watch_bytes.specs.States as states;
 ghost use Rattle.watch_bytes.specs.Claims as claims;
 
 use copying::copy_in;
-use format::{Outcome, Refusal};
+use format::Refusal;
 use watch::Watch;
 use words::{word_bytes, word_of};
 
@@ -55,27 +55,27 @@ fn load(state: &[u8]) -> Watch
 
 // Makes the bytes those of a watch that begins at the time. Answers 0, or refuses: STATE.
 #[tactic(auto, unfolding(crate::specs::States::renew))]
-pub fn new(state: &mut [u8], time: u32) -> Outcome
+pub fn new(state: &mut [u8], time: u32) -> Result<usize, Refusal>
     ensures { states.watch_bytes_after result state.new ≡ states.renew state.old time }
 {
     if state.len() != State::SIZE {
-        return Outcome::Refused(Refusal::State);
+        return Err(Refusal::State);
     }
     put(state, Watch::new(time));
-    Outcome::Value(0)
+    Ok(0)
 }
 
 // A bus is heard at the time: 0 is A, 1 is B. Answers the bus, or refuses and stores nothing: STATE, FIELD.
-pub fn heard(state: &mut [u8], bus: u8, time: u32) -> Outcome
+pub fn heard(state: &mut [u8], bus: u8, time: u32) -> Result<usize, Refusal>
     ensures { states.watch_bytes_after result state.new ≡ states.hearing state.old bus time }
 {
     if !is_state(state) {
-        return Outcome::Refused(Refusal::State);
+        return Err(Refusal::State);
     }
     let heard = load(state).heard(bus, time);
     let watch = heard.watch;
     let answer = heard.answer;
-    if let Outcome::Refused(_) = answer {
+    if let Err(_) = answer {
         return answer;
     }
     put(state, watch);
@@ -98,11 +98,11 @@ fn resets(a: bool, b: bool) -> usize
 }
 
 // Which buses are to be reset at the time: 0 none, 1 A, 2 B, 3 both. Refuses: STATE. With none nothing is stored.
-pub fn check(state: &mut [u8], time: u32) -> Outcome
+pub fn check(state: &mut [u8], time: u32) -> Result<usize, Refusal>
     ensures { states.watch_bytes_after result state.new ≡ states.checking state.old time }
 {
     if !is_state(state) {
-        return Outcome::Refused(Refusal::State);
+        return Err(Refusal::State);
     }
     let checked = load(state).check(time);
     let watch = checked.watch;
@@ -110,7 +110,7 @@ pub fn check(state: &mut [u8], time: u32) -> Outcome
     if reset != 0 {
         put(state, watch);
     }
-    Outcome::Value(reset)
+    Ok(reset)
 }
 
 // The claims of this crate. It does nothing: its contract ties each claim to its proof.

@@ -2,12 +2,12 @@
 use Rattle.lister.proofs.Placing.{never_refused, line_added}
 use Rattle.lister.proofs.put_line.Goals as goal
 
-pub returns-in-Value : goal.returns-in-Value
-returns-in-Value c =
+pub returns-in-Ok : goal.returns-in-Ok
+returns-in-Ok c =
     let a = c.args in let p = c.requires in
-    line_added a.line a.output.now a.at p.0 p.1 _ _ c.in-Value.ensures.result_value c.in-Value.ensures.output_after
+    line_added a.line a.output.now a.at p.0 p.1 _ _ c.in-Ok.ensures.result_value c.in-Ok.ensures.output_after
 
-pub returns-in-Refused : goal.returns-in-Refused
-returns-in-Refused c =
+pub returns-in-Err : goal.returns-in-Err
+returns-in-Err c =
     let a = c.args in let p = c.requires in
-    absurd (never_refused a.line a.output.now a.at p.0 p.1 _ c.in-Refused.ensures.result_value)
+    absurd (never_refused a.line a.output.now a.at p.0 p.1 _ c.in-Err.ensures.result_value)

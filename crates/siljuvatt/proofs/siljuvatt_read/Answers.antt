@@ -4,4 +4,4 @@ use Rattle.siljuvatt.proofs.Reading.{below_16}
 use Rattle.siljuvatt.proofs.siljuvatt_read.Goals as goal
 
 pub overflow_mul-start : goal.overflow_mul-start
-overflow_mul-start c = let a = c.args in omega (arith, below_16 a.state.now a.store.now a.slot _ c.in-Value.ensures)
+overflow_mul-start c = let a = c.args in omega (arith, below_16 a.state.now a.store.now a.slot _ c.in-Ok.ensures)

@@ -3,9 +3,9 @@ use Rattle.format.specs.Tests.{all_true, all_after}
 use Rattle.slot.specs.Sound.{slot_sound}
 use Rattle.slot.proofs.slot_sound.Goals as goal
 
-pub returns-in-Closed : goal.returns-in-Closed
+pub returns-in-None : goal.returns-in-None
 unfolding slot_sound
-returns-in-Closed c = search rules
+returns-in-None c = search rules
 
 pub returns-then-in_range_of : goal.returns-then-in_range_of
 unfolding slot_sound all_true all_after

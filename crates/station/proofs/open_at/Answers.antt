@@ -7,10 +7,10 @@ pub returns-then-i-ge16 : goal.returns-then-i-ge16
 unfolding is_open all_true all_after
 returns-then-i-ge16 c = simp (le-ltb _ _ c.if-i-ge16.true)
 
-pub returns-in-Closed : goal.returns-in-Closed
+pub returns-in-None : goal.returns-in-None
 unfolding is_open all_true all_after
-returns-in-Closed c = simp (lt-ltb _ _ c.if-i-ge16.false, c.in-Closed.is)
+returns-in-None c = simp (lt-ltb _ _ c.if-i-ge16.false, c.in-None.is)
 
-pub returns-in-Open : goal.returns-in-Open
+pub returns-in-Some : goal.returns-in-Some
 unfolding is_open all_true all_after
-returns-in-Open c = simp (lt-ltb _ _ c.if-i-ge16.false, c.in-Open.is)
+returns-in-Some c = simp (lt-ltb _ _ c.if-i-ge16.false, c.in-Some.is)

@@ -1,7 +1,7 @@
 -- `station_bytes::receive` meets its contract: each refusal in its order, else the slot of the frame's key steps (Calling).
 use Rattle.std.proofs.Common.{ℕ, ◌≡◌, List, ◌∙◌, ap, sym, refl, arith}
 use Rattle.frame.specs.declared.Head.{Head}
-use Rattle.frame.specs.declared.Verdict.TheVariants.{Sound}
+use Rattle.std.specs.Prelude.{Ok}
 use Rattle.frame.specs.Judge.{meaning, judge}
 use Rattle.format.specs.Refusals.{value}
 use Rattle.format.specs.declared.Format.{Format}
@@ -12,7 +12,7 @@ use Rattle.station_bytes.proofs.Calling.{sound_of, state_size, receive_state, re
 use Rattle.station_bytes.proofs.receive.Goals as goal
 
 -- the image is a frame of the state's format
-as-judged : {format format' : Format} (image : List ℕ) {head : Head} → format ≡ format' → meaning (Sound head) image ≡ judge format image
+as-judged : {format format' : Format} (image : List ℕ) {head : Head} → format ≡ format' → meaning (Ok head) image ≡ judge format image
     → value (record { frame = frame_of head image; start = head.start }) ≡ judge format' image
 as-judged image ef e = e ∙ ap (λ (format : Format). judge format image) ef
 
@@ -40,8 +40,8 @@ pub returns-then-i-ge16 : goal.returns-then-i-ge16
 returns-then-i-ge16 c =
     let a = c.args in
     let sound = sound_of a.state.now _ _ c.if-not-sound_codes.ensures refl in
-    let head = c.in-Sound.head in
-    let judged = as-judged a.image.now c.format_of-format.ensures c.in-Sound.ensures in
+    let head = c.in-Ok.head in
+    let judged = as-judged a.image.now c.format_of-format.ensures c.in-Ok.ensures in
     receive-none a.state.now _ sound a.store.now a.bus a.image.now c.if-store-ne-SIZE.false c.if-bus-gt1.false _ judged _
     (key_place a.state.now _ sound (key_of a.bus (frame_of head a.image.now)) c.find_key-i.result
     (rw (sym c.format_of-format.ensures) c.find_key-i.ensures))
@@ -51,23 +51,23 @@ pub step_at-requires : goal.step_at-requires
 step_at-requires c =
     let a = c.args in
     let sound = sound_of a.state.now _ _ c.if-not-sound_codes.ensures refl in
-    let judged = as-judged a.image.now c.format_of-format.ensures c.in-Sound.ensures in
+    let judged = as-judged a.image.now c.format_of-format.ensures c.in-Ok.ensures in
     let n = sound_image _ a.image.now _ (sym judged) in
     (c.if-i-ge16.false, state_size a.state.now _ sound, c.if-store-ne-SIZE.false, n.starts, n.most)
 
-pub returns-in-Refused : goal.returns-in-Refused
-returns-in-Refused c =
+pub returns-in-Err : goal.returns-in-Err
+returns-in-Err c =
     let a = c.args in
     receive-image a.state.now _ (sound_of a.state.now _ _ c.if-not-sound_codes.ensures refl) a.store.now a.bus a.image.now
-    c.if-store-ne-SIZE.false c.if-bus-gt1.false c.in-Refused.name
-    (c.in-Refused.ensures ∙ ap (λ (format : Format). judge format a.image.now) c.format_of-format.ensures)
+    c.if-store-ne-SIZE.false c.if-bus-gt1.false c.in-Err.name
+    (c.in-Err.ensures ∙ ap (λ (format : Format). judge format a.image.now) c.format_of-format.ensures)
 
 pub returns-else-i-ge16 : goal.returns-else-i-ge16
 returns-else-i-ge16 c =
     let a = c.args in
     let sound = sound_of a.state.now _ _ c.if-not-sound_codes.ensures refl in
-    let head = c.in-Sound.head in
-    let judged = as-judged a.image.now c.format_of-format.ensures c.in-Sound.ensures in
+    let head = c.in-Ok.head in
+    let judged = as-judged a.image.now c.format_of-format.ensures c.in-Ok.ensures in
     receive-step a.state.now _ sound a.store.now a.bus a.image.now c.if-store-ne-SIZE.false c.if-bus-gt1.false _ judged _
     (key_place a.state.now _ sound (key_of a.bus (frame_of head a.image.now)) c.find_key-i.result
     (rw (sym c.format_of-format.ensures) c.find_key-i.ensures))

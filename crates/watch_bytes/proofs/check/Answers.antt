@@ -1,6 +1,6 @@
 -- Bytes that are no watch's, buses to be reset, and none, where the watch is in the bytes already.
 use Rattle.std.proofs.Common.{◌≡◌, sym, ap, ◌∙◌, arith, rules}
-use Rattle.format.specs.declared.Outcome.TheVariants.{Value}
+use Rattle.std.specs.Prelude.{Ok}
 use Rattle.frame.specs.Claims.{Bytes}
 use Rattle.watch.specs.Watching as watching
 use Rattle.watch_bytes.specs.States.{watch_bytes_after, watch_in, resets, checked_in_bytes, checking}
@@ -40,5 +40,5 @@ returns-else-reset-ne0 c =
     let bytes : Bytes g.state.now = λ i. search rules in
     let none : resets c.check-checked.result.a c.check-checked.result.b ≡ 0 = omega (arith, c.resets-reset.ensures) in
     let same = unreset g.state.now bytes (sym c.if-not-is_state.ensures) g.time c.check-checked.result t none in
-    ap (watch_bytes_after (Value c.resets-reset.result)) (sym same)
+    ap (watch_bytes_after (Ok c.resets-reset.result)) (sym same)
     ∙ rw c.resets-reset.ensures (ap checked_in_bytes t ∙ a-watch g.state.now _ (sym c.if-not-is_state.ensures))

@@ -23,13 +23,13 @@ returns-then-not-is_state c = no-watch c.args.state.now _ (sym c.if-not-is_state
 pub load-requires : goal.load-requires
 load-requires c = sized _ (sym c.if-not-is_state.ensures)
 
-pub returns-in-Refused : goal.returns-in-Refused
+pub returns-in-Err : goal.returns-in-Err
 unfolding hearing
-returns-in-Refused c =
+returns-in-Err c =
     let g = c.args in
-    let t = told (goal.at.returns-in-Refused c).After-heard-heard in
+    let t = told (goal.at.returns-in-Err c).After-heard-heard in
     let bytes : Bytes g.state.now = λ i. search rules in
-    let same = there g.state.now bytes (sym c.if-not-is_state.ensures) g.bus g.time c.heard-heard.result _ t c.in-Refused.is in
+    let same = there g.state.now bytes (sym c.if-not-is_state.ensures) g.bus g.time c.heard-heard.result _ t c.in-Err.is in
     ap (watch_bytes_after c.heard-heard.result.answer) (sym same) ∙ ap heard_in_bytes t ∙ a-watch g.state.now _ (sym c.if-not-is_state.ensures)
 
 pub put-requires : goal.put-requires

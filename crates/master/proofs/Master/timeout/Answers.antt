@@ -8,14 +8,14 @@ pub returns-then-not-is_sound : goal.returns-then-not-is_sound
 returns-then-not-is_sound c = ap master_after c.refuse.ensures ∙ timeout_state c.args.self (sym c.if-not-is_sound.ensures)
 
 pub expire-requires : goal.expire-requires
-expire-requires c = node_in_range c.args.self _ (sym c.if-not-is_sound.ensures) c.in-UnderWay.is
+expire-requires c = node_in_range c.args.self _ (sym c.if-not-is_sound.ensures) c.in-Some.is
 
-pub returns-in-Idle : goal.returns-in-Idle
-returns-in-Idle c =
-    ap master_after c.refuse-in-Idle.ensures ∙ timeout_idle c.args.self (sym c.if-not-is_sound.ensures) (ap under_way c.in-Idle.is)
+pub returns-in-None : goal.returns-in-None
+returns-in-None c =
+    ap master_after c.refuse-in-None.ensures ∙ timeout_idle c.args.self (sym c.if-not-is_sound.ensures) (ap under_way c.in-None.is)
 
-pub returns-in-UnderWay : goal.returns-in-UnderWay
-returns-in-UnderWay c =
+pub returns-in-Some : goal.returns-in-Some
+returns-in-Some c =
     let g = c.args.self in
-    let e = c.in-UnderWay.is in
+    let e = c.in-Some.is in
     c.expire.ensures ∙ ap given (ap (expired g.chosen) (sym e)) ∙ timeout_expires g (sym c.if-not-is_sound.ensures) (ap under_way e)

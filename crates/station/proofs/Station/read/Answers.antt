@@ -12,20 +12,20 @@ no_place n at i (refused m) e = refl
 -- the length that was answered is that of a packet within its area
 pub overflow_mul-from : goal.overflow_mul-from
 overflow_mul-from c =
-    let packet = has_length c.args.self c.args.store.now c.args.i _ (ap meaning (sym c.in-Value.is) ∙ c.read_length.ensures) in
+    let packet = has_length c.args.self c.args.store.now c.args.i _ (ap meaning (sym c.in-Ok.is) ∙ c.read_length.ensures) in
     omega (arith, packet.below)
 
 pub overflow_add-to : goal.overflow_add-to
 overflow_add-to c =
-    let packet = has_length c.args.self c.args.store.now c.args.i _ (ap meaning (sym c.in-Value.is) ∙ c.read_length.ensures) in
+    let packet = has_length c.args.self c.args.store.now c.args.i _ (ap meaning (sym c.in-Ok.is) ∙ c.read_length.ensures) in
     omega (arith, packet.below, packet.small)
 
-pub slice_bounds-result-end-in-Value : goal.slice_bounds-result-end-in-Value
-slice_bounds-result-end-in-Value c =
-    let packet = has_length c.args.self c.args.store.now c.args.i _ (ap meaning (sym c.in-Value.is) ∙ c.read_length.ensures) in
+pub slice_bounds-result-end-in-Ok : goal.slice_bounds-result-end-in-Ok
+slice_bounds-result-end-in-Ok c =
+    let packet = has_length c.args.self c.args.store.now c.args.i _ (ap meaning (sym c.in-Ok.is) ∙ c.read_length.ensures) in
     omega (arith, packet.below, packet.small, packet.whole)
 
-pub returns-in-Value-clause-result_value : goal.returns-in-Value-clause-result_value
-returns-in-Value-clause-result_value c =
-    let packet = has_length c.args.self c.args.store.now c.args.i _ (ap meaning (sym c.in-Value.is) ∙ c.read_length.ensures) in
+pub returns-in-Ok-clause-result_value : goal.returns-in-Ok-clause-result_value
+returns-in-Ok-clause-result_value c =
+    let packet = has_length c.args.self c.args.store.now c.args.i _ (ap meaning (sym c.in-Ok.is) ∙ c.read_length.ensures) in
     rw add-sub_cancel_left (ap part_of packet.part)
