@@ -10,7 +10,7 @@ pub returns-then-store-ne-SIZE : goal.returns-then-store-ne-SIZE
 returns-then-store-ne-SIZE c =
     let g = c.args in
     let none = names_none g.slots (omega arith) in
-    let l = found g.format g.slots g.bus g.image.now _ _ _ _ c.judge.ensures c.in-Ok.is c.seek.ensures c.in-Ok.is in
+    let l = found g.format g.slots g.bus g.image.now _ _ _ _ c.judge.ensures c.in-Ok.is c.seek.ensures c.in-Ok-seek.is in
     rw c.unchanged-then-store-ne-SIZE.ensures
     (on_store g.format g.slots g.store.now g.bus g.image.now l.ok (omega arith), at_store g.format g.slots g.store.now g.bus g.image.now none l.ok (omega arith))
 
@@ -18,7 +18,7 @@ pub returns-then-bus-gt1 : goal.returns-then-bus-gt1
 returns-then-bus-gt1 c =
     let g = c.args in
     let none = names_none g.slots (omega arith) in
-    let l = found g.format g.slots g.bus g.image.now _ _ _ _ c.judge.ensures c.in-Ok.is c.seek.ensures c.in-Ok.is in
+    let l = found g.format g.slots g.bus g.image.now _ _ _ _ c.judge.ensures c.in-Ok.is c.seek.ensures c.in-Ok-seek.is in
     rw c.unchanged-then-bus-gt1.ensures
     (on_field g.format g.slots g.store.now g.bus g.image.now l.ok (omega arith) (omega arith), at_field g.format g.slots g.store.now g.bus g.image.now none l.ok (omega arith) (omega arith))
 
@@ -26,7 +26,7 @@ pub returns-then-i-ge16 : goal.returns-then-i-ge16
 returns-then-i-ge16 c =
     let g = c.args in
     let none = names_none g.slots (omega arith) in
-    let l = found g.format g.slots g.bus g.image.now _ _ _ _ c.judge.ensures c.in-Ok.is c.seek.ensures c.in-Ok.is in
+    let l = found g.format g.slots g.bus g.image.now _ _ _ _ c.judge.ensures c.in-Ok.is c.seek.ensures c.in-Ok-seek.is in
     rw c.unchanged-then-i-ge16.ensures (
       on_none g.format g.slots g.store.now g.bus g.image.now (omega arith) l.ok (omega arith) (omega arith) _ l.judged _ l.placed (omega arith),
       at_none g.format g.slots g.store.now g.bus g.image.now none l.ok (omega arith) (omega arith) _ l.judged _ l.placed (omega arith),
@@ -35,7 +35,7 @@ returns-then-i-ge16 c =
 pub step_at-requires : goal.step_at-requires
 step_at-requires c =
     let g = c.args in
-    let l = found g.format g.slots g.bus g.image.now _ _ _ _ c.judge.ensures c.in-Ok.is c.seek.ensures c.in-Ok.is in
+    let l = found g.format g.slots g.bus g.image.now _ _ _ _ c.judge.ensures c.in-Ok.is c.seek.ensures c.in-Ok-seek.is in
     (omega arith, omega arith, l.start, l.bytes)
 
 pub returns-in-Err : goal.returns-in-Err
@@ -58,7 +58,7 @@ returns-in-Err-seek c =
 pub returns-else-i-ge16 : goal.returns-else-i-ge16
 returns-else-i-ge16 c =
     let g = c.args in
-    let l = found g.format g.slots g.bus g.image.now _ _ _ _ c.judge.ensures c.in-Ok.is c.seek.ensures c.in-Ok.is in
+    let l = found g.format g.slots g.bus g.image.now _ _ _ _ c.judge.ensures c.in-Ok.is c.seek.ensures c.in-Ok-seek.is in
     let t = c.step_at.ensures in (
       t.at ∙ sym l.placed ∙ on-frame g.format g.slots g.store.now g.bus g.image.now l.ok (omega arith) (omega arith) _ l.judged,
       at_slot g.format g.slots g.store.now g.bus g.image.now l.ok (omega arith) (omega arith) _ l.judged _ l.placed (omega arith) _ _ t,
