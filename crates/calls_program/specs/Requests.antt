@@ -107,8 +107,8 @@ EachNamed = (name : Refusal) → refusal_named (number name) ≡ name
 -- number the lowest byte counts". It comes after the room, at place 1.
 unfoldable pub answer_of_line : List ℕ → Returned Answer
 answer_of_line args =
-    cond (byte_at args 20 == 1) (answer.Packet (number8_at args 21) (byte_at args 29 == 1))
-    (cond (byte_at args 20 == 2) (answer.Kept (byte_at args 29 == 1))
+    cond (byte_at args 20 == 1) (Ok (answer.Packet (number8_at args 21) (byte_at args 29 == 1)))
+    (cond (byte_at args 20 == 2) (Ok (answer.Kept (byte_at args 29 == 1)))
     (cond (byte_at args 20 == 3) (Ok answer.Filtered) (Err (refusal_named (byte_at args 28)))))
 
 unfoldable pub frame_of_line : List ℕ → Line
