@@ -1,5 +1,5 @@
 pub mod Buses
-mod Moves
+pub mod Moves
 pub mod Claims
 mod Replies
 mod Answers

@@ -59,15 +59,17 @@ abbrev pub exchange_ended : Told → List ℕ → Step
 exchange_ended told chosen = record { told = told; next = record { chosen = chosen; activity = None } }
 
 -- BUSY: start during an exchange
-unfoldable pub starting : Master → Kind → ℕ → MasterAfter
-starting master kind node =
-    handed_back master
-    (guarded
+abbrev pub started : Master → Kind → ℕ → Result Step
+started master kind node =
+    guarded
     (check refusal.State (sound master)
     ∷ check refusal.Field (leb node 63)
     ∷ check refusal.Busy (not (under_way master.activity))
     ∷ [])
-    (sent master.chosen (record { kind = kind; node = node; sends = 1 })))
+    (sent master.chosen (record { kind = kind; node = node; sends = 1 }))
+
+unfoldable pub starting : Master → Kind → ℕ → MasterAfter
+starting master kind node = handed_back master (started master kind node)
 
 -- from that node, with that function, on the bus of the latest send
 unfoldable pub counts : List ℕ → ℕ → ℕ → ℕ → Option Exchange → Bool
@@ -80,16 +82,18 @@ counts chosen bus node function (Some exchange) =
     ∷ [])
 
 -- FIELD: bus, node or function out of range. IDLE: reply with none. NOTAWAITED: reply does not count
-unfoldable pub replying : Master → ℕ → ℕ → ℕ → MasterAfter
-replying master bus node function =
-    handed_back master
-    (guarded
+abbrev pub replied : Master → ℕ → ℕ → ℕ → Result Step
+replied master bus node function =
+    guarded
     (check refusal.State (sound master)
     ∷ check refusal.Field (all_true (leb bus 1 ∷ leb node 63 ∷ leb function 31 ∷ []))
     ∷ check refusal.Idle (under_way master.activity)
     ∷ check refusal.NotAwaited (counts master.chosen bus node function master.activity)
     ∷ [])
-    (exchange_ended done master.chosen))
+    (exchange_ended done master.chosen)
+
+unfoldable pub replying : Master → ℕ → ℕ → ℕ → MasterAfter
+replying master bus node function = handed_back master (replied master bus node function)
 
 -- the chosen buses after a timeout: the other bus for the node if the sends on the first are used up
 unfoldable pub chosen_after : List ℕ → Exchange → List ℕ
@@ -109,18 +113,30 @@ expired chosen (Some exchange) =
     (exchange_ended gave_up (chosen_after chosen exchange))
 
 -- IDLE: timeout with none
+abbrev pub timed_out : Master → Result Step
+timed_out master =
+    guarded (check refusal.State (sound master) ∷ check refusal.Idle (under_way master.activity) ∷ []) (expired master.chosen master.activity)
+
 unfoldable pub timing_out : Master → MasterAfter
-timing_out master =
-    handed_back master
-    (guarded (check refusal.State (sound master) ∷ check refusal.Idle (under_way master.activity) ∷ [])
-    (expired master.chosen master.activity))
+timing_out master = handed_back master (timed_out master)
 
 -- what the code's answer says
+abbrev pub told_of : Answer → Told
+told_of (answered.Send bus) = send bus
+told_of answered.Done = done
+told_of answered.GaveUp = gave_up
+
 abbrev pub meaning : Returned Answer → Result Told
-meaning (Ok (answered.Send bus)) = value (send bus)
-meaning (Ok answered.Done) = value done
-meaning (Ok answered.GaveUp) = value gave_up
+meaning (Ok answer) = value (told_of answer)
 meaning (Err name) = refused (number name)
+
+-- what the code's answer and next master say
+abbrev pub step_of : Answer × Master → Step
+step_of given = record { told = told_of given.0; next = given.1 }
+
+abbrev pub step_given : Returned (Answer × Master) → Result Step
+step_given (Ok given) = value (step_of given)
+step_given (Err name) = refused (number name)
 
 -- what the code hands back says
 abbrev pub master_after : Moved → MasterAfter

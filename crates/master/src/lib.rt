@@ -3,19 +3,44 @@
 #![tactic(auto)]
 
 ghost use Rattle.std.specs.Prelude.{◌≡◌, ◌≤◌};
-ghost use Rattle.master.specs.Masters.{new_master, plan_of, function_sent, other, chosen_sound, exchange_sound, sound};
+ghost use Rattle.master.specs.Masters.{new_master, kind_number, kind_numbered, plan_of, function_sent, chosen_bus, other, chosen_sound, exchange_sound, sound};
 ghost use Rattle.master.specs.Exchanges as exchanges;
+ghost use Rattle.master.specs.Exchanges.{told_of, step_of, step_given};
 ghost use Rattle.master.specs.Claims as claims;
 ghost use Rattle.master.specs.Examples.{Examples};
 
 use format::Refusal;
 
-// What is sent to a node.
-#[derive(Clone, Copy)]
+// What is sent to a node. Where a kind is handed over as a byte, it is this number.
+#[derive(Clone, Copy, Debug, PartialEq, Eq)]
 pub enum Kind {
-    Poll,
-    DataBlock,
-    Command,
+    Poll = 1,
+    DataBlock = 2,
+    Command = 3,
+}
+
+impl From<Kind> for u8 {
+    ghost from_gives = { λ kind number. number ≡ kind_number kind };
+
+    fn from(kind: Kind) -> u8 {
+        kind as u8
+    }
+}
+
+impl TryFrom<u8> for Kind {
+    type Error = Refusal;
+
+    ghost try_from_gives = { λ number kind. kind ≡ kind_numbered number };
+
+    // FIELD: a number that is no kind's.
+    fn try_from(number: u8) -> Result<Self, Refusal> {
+        match number {
+            1 => Ok(Kind::Poll),
+            2 => Ok(Kind::DataBlock),
+            3 => Ok(Kind::Command),
+            _ => Err(Refusal::Field),
+        }
+    }
 }
 
 impl Kind {
@@ -29,25 +54,66 @@ impl Kind {
             Kind::Command => 3,
         }
     }
+
+    fn plan(self) -> Plan
+        ensures { result ≡ plan_of self }
+    {
+        match self {
+            Kind::Poll => Plan {
+                first: 1,
+                total: 1,
+                awaited: 2,
+            },
+            Kind::DataBlock => Plan {
+                first: 2,
+                total: 2,
+                awaited: 4,
+            },
+            Kind::Command => Plan {
+                first: 2,
+                total: 3,
+                awaited: 4,
+            },
+        }
+    }
+}
+
+// How an exchange of a kind goes: how often it is sent on the bus that is chosen at its start, how
+// often in all, and the function that answers it.
+#[derive(Clone, Copy, Debug, PartialEq, Eq)]
+pub struct Plan {
+    pub first: u8,
+    pub total: u8,
+    pub awaited: u8,
 }
 
 // An exchange with a node, and how many times it was sent so far.
-#[derive(Clone, Copy)]
+#[derive(Clone, Copy, Debug, PartialEq, Eq)]
 pub struct Exchange {
     pub kind: Kind,
     pub node: u8,
     pub sends: u8,
 }
 
+impl Exchange {
+    // A node 0 to 63, and a send count from 1 to the kind's total.
+    #[tactic(auto, unfolding(crate::specs::Masters::exchange_sound, format::specs::Tests::all_true))]
+    fn is_sound(self) -> bool
+        ensures { result ≡ exchange_sound (Some self) }
+    {
+        self.node <= 63 && self.sends >= 1 && self.sends <= self.kind.plan().total
+    }
+}
+
 // The bus chosen for each node, 0 for A and 1 for B, and the exchange under way, if any.
-#[derive(Clone, Copy)]
+#[derive(Clone, Copy, Debug, PartialEq, Eq)]
 pub struct Master {
     pub chosen: [u8; 64],
     pub activity: Option<Exchange>,
 }
 
 // What a call answers that is not refused: send on this bus, done or gave up.
-#[derive(Clone, Copy)]
+#[derive(Clone, Copy, Debug, PartialEq, Eq)]
 pub enum Answer {
     Send(u8),
     Done,
@@ -61,177 +127,91 @@ pub struct Moved {
     pub answer: Result<Answer, Refusal>,
 }
 
-// How an exchange of a kind goes: how often it is sent on the bus that is chosen at its start, how
-// often in all, and the function that answers it.
+// An exchange with a node 0 to 63, and the buses chosen.
 #[derive(Clone, Copy)]
-pub struct Plan {
-    pub first: u8,
-    pub total: u8,
-    pub awaited: u8,
+struct UnderWay {
+    chosen: [u8; 64],
+    exchange: Exchange,
+    ghost in_range: { exchange.node ≤ 63 },
 }
 
-fn plan_of(kind: Kind) -> Plan
-    ensures { result ≡ plan_of kind }
-{
-    match kind {
-        Kind::Poll => Plan {
-            first: 1,
-            total: 1,
-            awaited: 2,
-        },
-        Kind::DataBlock => Plan {
-            first: 2,
-            total: 2,
-            awaited: 4,
-        },
-        Kind::Command => Plan {
-            first: 2,
-            total: 3,
-            awaited: 4,
-        },
+impl UnderWay {
+    // The bus chosen for the node.
+    #[tactic(auto, unfolding(crate::specs::Masters::chosen_bus))]
+    fn bus(self) -> u8
+        ensures { result ≡ chosen_bus self.chosen self.exchange.node }
+    {
+        self.chosen[self.exchange.node as usize]
     }
-}
 
-fn chosen_sound(chosen: [u8; 64]) -> bool
-    ensures { result ≡ chosen_sound chosen }
-{
-    let mut i: usize = 0;
-    while i < 64 {
-        if chosen[i] > 1 {
-            return false;
+    // The exchange goes out on the bus chosen for its node.
+    fn send(self) -> (Answer, Master)
+        ensures { step_of result ≡ exchanges.sent self.chosen self.exchange }
+    {
+        let UnderWay { chosen, exchange } = self;
+        let activity = Some(exchange);
+        (Answer::Send(self.bus()), Master { chosen, activity })
+    }
+
+    // The chosen buses after a timeout: with the sends on the first bus used up, the node's is the other.
+    #[tactic(auto, unfolding(crate::specs::Exchanges::chosen_after, crate::specs::Masters::switched, crate::specs::Masters::chosen_bus))]
+    fn chosen_after(self) -> [u8; 64]
+        ensures { result ≡ exchanges.chosen_after self.chosen self.exchange }
+    {
+        let mut chosen = self.chosen;
+        if self.exchange.sends == self.exchange.kind.plan().first {
+            chosen[self.exchange.node as usize] = other_bus(self.bus());
         }
-        i += 1;
+        chosen
     }
-    true
-}
 
-#[tactic(auto, unfolding(crate::specs::Masters::exchange_sound, format::specs::Tests::all_true))]
-fn exchange_sound(activity: Option<Exchange>) -> bool
-    ensures { result ≡ exchange_sound activity }
-{
-    match activity {
-        None => true,
-        Some(exchange) => {
-            let kind = exchange.kind;
-            let plan = plan_of(kind);
-            (exchange.node <= 63) & (exchange.sends >= 1) & (exchange.sends <= plan.total)
+    // A timeout: sent again, or given up.
+    #[tactic(auto, unfolding(crate::specs::Exchanges::expired))]
+    fn expire(self) -> (Answer, Master)
+        ensures { step_of result ≡ exchanges.expired self.chosen (Some self.exchange) }
+    {
+        let chosen = self.chosen_after();
+        if self.exchange.sends >= self.exchange.kind.plan().total {
+            return end(chosen, Answer::GaveUp);
         }
+        let exchange = Exchange {
+            sends: self.exchange.sends + 1,
+            ..self.exchange
+        };
+        UnderWay { chosen, exchange }.send()
+    }
+
+    // Whether a reply is the one awaited: from the node, with the function, on the bus of the latest
+    // send, which is the bus chosen for the node.
+    #[tactic(auto, unfolding(crate::specs::Exchanges::counts, format::specs::Tests::all_true))]
+    fn counts(self, bus: u8, node: u8, function: u8) -> bool
+        ensures { result ≡ exchanges.counts self.chosen bus node function (Some self.exchange) }
+    {
+        node == self.exchange.node
+            && function == self.exchange.kind.plan().awaited
+            && bus == self.bus()
     }
 }
 
-#[tactic(auto, unfolding(crate::specs::Masters::sound, format::specs::Tests::all_true))]
-fn is_sound(master: Master) -> bool
-    ensures { result ≡ sound master }
+// Each is 0 or 1.
+fn chosen_sound(chosen: &[u8; 64]) -> bool
+    ensures { result ≡ chosen_sound chosen.now }
 {
-    let chosen = master.chosen;
-    let activity = master.activity;
-    chosen_sound(chosen) & exchange_sound(activity)
-}
-
-fn is_under_way(activity: Option<Exchange>) -> bool
-    ensures { result ≡ exchanges.under_way activity }
-{
-    match activity {
-        None => false,
-        Some(_) => true,
-    }
-}
-
-fn refuse(master: Master, name: Refusal) -> Moved
-    ensures { result ≡ record { master = master; answer = Err name } }
-{
-    Moved {
-        master: master,
-        answer: Err(name),
-    }
-}
-
-// The exchange goes out on the bus chosen for its node.
-#[tactic(auto, unfolding(crate::specs::Masters::chosen_bus))]
-fn send(chosen: [u8; 64], exchange: Exchange) -> Moved
-    requires { exchange.node ≤ 63 }
-    ensures { exchanges.master_after result ≡ exchanges.given (exchanges.sent chosen exchange) }
-{
-    let at = exchange.node as usize;
-    let bus = chosen[at];
-    Moved {
-        master: Master {
-            chosen: chosen,
-            activity: Some(exchange),
-        },
-        answer: Ok(Answer::Send(bus)),
-    }
-}
-
-// The exchange ends.
-fn end(chosen: [u8; 64], answer: Result<Answer, Refusal>) -> Moved
-    ensures { result ≡ record { master = record { chosen = chosen; activity = None }; answer = answer } }
-{
-    Moved {
-        master: Master {
-            chosen: chosen,
-            activity: None,
-        },
-        answer: answer,
-    }
+    chosen.iter().all(|&bus| bus <= 1)
 }
 
 fn other_bus(bus: u8) -> u8
     ensures { result ≡ other bus }
 {
-    if bus == 0 {
-        return 1;
-    }
-    0
+    if bus == 0 { 1 } else { 0 }
 }
 
-// The chosen buses after a timeout: with the sends on the first bus used up, the node's is the other.
-fn chosen_after(mut chosen: [u8; 64], exchange: Exchange) -> [u8; 64]
-    requires { exchange.node ≤ 63 }
-    ensures { result ≡ exchanges.chosen_after chosen exchange }
+// The exchange ends.
+fn end(chosen: [u8; 64], answer: Answer) -> (Answer, Master)
+    ensures { step_of result ≡ exchanges.exchange_ended (told_of answer) chosen }
 {
-    let kind = exchange.kind;
-    let plan = plan_of(kind);
-    if exchange.sends != plan.first {
-        return chosen;
-    }
-    let at = exchange.node as usize;
-    let first = chosen[at];
-    chosen[at] = other_bus(first);
-    chosen
-}
-
-// A timeout of an exchange under way: sent again, or given up.
-fn expire(chosen: [u8; 64], exchange: Exchange) -> Moved
-    requires { exchange.node ≤ 63 }
-    ensures { exchanges.master_after result ≡ exchanges.given (exchanges.expired chosen (Some exchange)) }
-{
-    let next = chosen_after(chosen, exchange);
-    let kind = exchange.kind;
-    let plan = plan_of(kind);
-    if exchange.sends < plan.total {
-        let again = Exchange {
-            kind: kind,
-            node: exchange.node,
-            sends: exchange.sends + 1,
-        };
-        return send(next, again);
-    }
-    end(next, Ok(Answer::GaveUp))
-}
-
-// Whether a reply is the one awaited: from the node, with the function, on the bus of the latest
-// send, which is the bus chosen for the node.
-#[tactic(auto, unfolding(crate::specs::Exchanges::counts, crate::specs::Masters::chosen_bus, format::specs::Tests::all_true))]
-fn counts(chosen: [u8; 64], exchange: Exchange, bus: u8, node: u8, function: u8) -> bool
-    requires { exchange.node ≤ 63 }
-    ensures { result ≡ exchanges.counts chosen bus node function (Some exchange) }
-{
-    let kind = exchange.kind;
-    let plan = plan_of(kind);
-    let at = exchange.node as usize;
-    let latest = chosen[at];
-    (node == exchange.node) & (function == plan.awaited) & (bus == latest)
+    let activity = None;
+    (answer, Master { chosen, activity })
 }
 
 impl Master {
@@ -239,78 +219,118 @@ impl Master {
     pub fn new() -> Master
         ensures { result ≡ new_master }
     {
-        let chosen = [0; 64];
-        let activity = None;
-        Master { chosen, activity }
+        Master {
+            chosen: [0; 64],
+            activity: None,
+        }
+    }
+
+    // Chosen buses 0 or 1, and a sound exchange or none.
+    #[tactic(auto, unfolding(crate::specs::Masters::sound, crate::specs::Masters::exchange_sound, format::specs::Tests::all_true))]
+    fn is_sound(self) -> bool
+        ensures { result ≡ sound self }
+    {
+        chosen_sound(&self.chosen) && self.activity.is_none_or(Exchange::is_sound)
     }
 
     // Starts an exchange with a node and answers the bus to send on, or refuses: STATE, FIELD, BUSY.
+    #[tactic(auto, unfolding(crate::specs::Exchanges::starting))]
     pub fn start(self, kind: Kind, node: u8) -> Moved
         ensures { exchanges.master_after result ≡ exchanges.starting self kind node }
     {
-        let activity = self.activity;
-        let chosen = self.chosen;
-        let busy = is_under_way(activity);
-        if !is_sound(self) {
-            return refuse(self, Refusal::State);
-        }
-        if node > 63 {
-            return refuse(self, Refusal::Field);
-        }
-        if busy {
-            return refuse(self, Refusal::Busy);
-        }
-        let exchange = Exchange {
-            kind: kind,
-            node: node,
-            sends: 1,
-        };
-        send(chosen, exchange)
+        self.hand_back(self.started(kind, node))
     }
 
     // A reply has come in: done if it is the one awaited, else refused: STATE, FIELD, IDLE,
     // NOTAWAITED.
+    #[tactic(auto, unfolding(crate::specs::Exchanges::replying))]
     pub fn reply(self, bus: u8, node: u8, function: u8) -> Moved
         ensures { exchanges.master_after result ≡ exchanges.replying self bus node function }
     {
-        let activity = self.activity;
-        let chosen = self.chosen;
-        let in_range = (bus <= 1) & (node <= 63) & (function <= 31);
-        if !is_sound(self) {
-            return refuse(self, Refusal::State);
-        }
-        if !in_range {
-            return refuse(self, Refusal::Field);
-        }
-        match activity {
-            None => refuse(self, Refusal::Idle),
-            Some(exchange) => {
-                if !counts(chosen, exchange, bus, node, function) {
-                    return refuse(self, Refusal::NotAwaited);
-                }
-                end(chosen, Ok(Answer::Done))
-            }
-        }
+        self.hand_back(self.replied(bus, node, function))
     }
 
     // No reply came in time: answers the bus to send on again, or gave up, or refuses: STATE, IDLE.
+    #[tactic(auto, unfolding(crate::specs::Exchanges::timing_out))]
     pub fn timeout(self) -> Moved
         ensures { exchanges.master_after result ≡ exchanges.timing_out self }
     {
-        let activity = self.activity;
+        self.hand_back(self.timed_out())
+    }
+
+    // A refusal hands back the master handed in.
+    fn hand_back(self, given: Result<(Answer, Master), Refusal>) -> Moved
+        ensures { exchanges.master_after result ≡ exchanges.handed_back self (step_given given) }
+    {
+        match given {
+            Ok((answer, master)) => Moved {
+                master,
+                answer: Ok(answer),
+            },
+            Err(name) => Moved {
+                master: self,
+                answer: Err(name),
+            },
+        }
+    }
+
+    #[tactic(auto, unfolding(format::specs::Refusals::guarded))]
+    fn started(self, kind: Kind, node: u8) -> Result<(Answer, Master), Refusal>
+        ensures { step_given result ≡ exchanges.started self kind node }
+    {
+        if !self.is_sound() {
+            return Err(Refusal::State);
+        }
+        if node > 63 {
+            return Err(Refusal::Field);
+        }
+        if self.activity.is_some() {
+            return Err(Refusal::Busy);
+        }
         let chosen = self.chosen;
-        if !is_sound(self) {
-            return refuse(self, Refusal::State);
+        let exchange = Exchange {
+            kind,
+            node,
+            sends: 1,
+        };
+        Ok(UnderWay { chosen, exchange }.send())
+    }
+
+    #[tactic(auto, using(crate::proofs::Moves::node_in_range), unfolding(format::specs::Refusals::guarded, format::specs::Tests::all_true))]
+    fn replied(self, bus: u8, node: u8, function: u8) -> Result<(Answer, Master), Refusal>
+        ensures { step_given result ≡ exchanges.replied self bus node function }
+    {
+        if !self.is_sound() {
+            return Err(Refusal::State);
         }
-        match activity {
-            None => refuse(self, Refusal::Idle),
-            Some(exchange) => expire(chosen, exchange),
+        if bus > 1 || node > 63 || function > 31 {
+            return Err(Refusal::Field);
         }
+        let chosen = self.chosen;
+        let exchange = self.activity.ok_or(Refusal::Idle)?;
+        let under_way = UnderWay { chosen, exchange };
+        if !under_way.counts(bus, node, function) {
+            return Err(Refusal::NotAwaited);
+        }
+        Ok(end(chosen, Answer::Done))
+    }
+
+    #[tactic(auto, using(crate::proofs::Moves::node_in_range), unfolding(format::specs::Refusals::guarded))]
+    fn timed_out(self) -> Result<(Answer, Master), Refusal>
+        ensures { step_given result ≡ exchanges.timed_out self }
+    {
+        if !self.is_sound() {
+            return Err(Refusal::State);
+        }
+        let chosen = self.chosen;
+        let exchange = self.activity.ok_or(Refusal::Idle)?;
+        Ok(UnderWay { chosen, exchange }.expire())
     }
 }
 
 // The claims of this crate. It does nothing: its contract ties each claim to its proof.
 pub fn promised()
+    ensures kinds { claims.Kinds }
     ensures new_is_sound { claims.NewIsSound }
     ensures stays_sound { claims.StaysSound }
     ensures refused_keeps { claims.RefusedKeeps }
