@@ -1,2 +1,1 @@
-mod Times
 pub mod Claims

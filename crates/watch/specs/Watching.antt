@@ -2,7 +2,7 @@
 -- 32-bit millisecond count. A new watch sets both to the time given; hearing a bus sets that one's. At a check, the time since is the
 -- difference modulo 2^32; at 16,000 or more that bus is to be reset and its last time becomes now." "Refusal numbers": FIELD for a bus
 -- out of range.
-use Rattle.std.specs.Prelude.{ℕ, ◌+◌, ◌-◌, ◌%◌, ◌^◌, Bool, cond, [], ◌∷◌, ◌==◌, nat_le}
+use Rattle.std.specs.Prelude.{ℕ, ◌+◌, ◌-◌, ◌%◌, ◌^◌, Bool, true, false, cond, [], ◌∷◌, ◌==◌, nat_le}
 use Rattle.format.specs.declared.Refusal.TheVariants.{Field}
 use Rattle.format.specs.Refusals.{Result, value, refused, check, guarded, meaning}
 use Rattle.watch.specs.declared.Watch.{Watch}
@@ -43,6 +43,13 @@ checking watch time =
     let resetA : Bool = silent watch.a time in
     let resetB : Bool = silent watch.b time in
     record { watch = record { a = cond resetA time watch.a; b = cond resetB time watch.b }; a = resetA; b = resetB }
+
+-- which buses are to be reset: 0 none, 1 A, 2 B, 3 both
+abbrev pub resets : (a b : Bool) → ℕ
+resets false false = 0
+resets true false = 1
+resets false true = 2
+resets true true = 3
 
 -- what the code hands back says
 abbrev pub watch_after : Heard → WatchAfter

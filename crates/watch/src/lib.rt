@@ -2,14 +2,14 @@
 // free-running 32-bit count.
 #![tactic(auto)]
 
-ghost use Rattle.std.specs.Prelude.{◌≡◌, if◌then◌else◌};
-ghost use Rattle.watch.specs.Watching.{new_watch, silent, hearing, checking, watch_after};
+ghost use Rattle.std.specs.Prelude.{◌≡◌};
+ghost use Rattle.watch.specs.Watching.{new_watch, silent, hearing, checking, resets, watch_after};
 ghost use Rattle.watch.specs.Claims as claims;
 
 use format::Refusal;
 
 // The last heard time of bus A and of bus B.
-#[derive(Clone, Copy)]
+#[derive(Clone, Copy, Debug, PartialEq, Eq)]
 pub struct Watch {
     pub a: u32,
     pub b: u32,
@@ -23,29 +23,29 @@ pub struct Heard {
 }
 
 // What a check hands back: the next watch, and whether bus A and bus B are to be reset.
-#[derive(Clone, Copy)]
+#[derive(Clone, Copy, Debug, PartialEq, Eq)]
 pub struct Checked {
     pub watch: Watch,
     pub a: bool,
     pub b: bool,
 }
 
+impl Checked {
+    // Which buses are to be reset, as one number: 0 none, 1 A, 2 B, 3 both.
+    pub fn resets(self) -> usize
+        ensures { result ≡ resets self.a self.b }
+    {
+        usize::from(self.a) + 2 * usize::from(self.b)
+    }
+}
+
 // Whether a bus last heard at `last` is to be reset at `time`. The count runs over, so the difference
 // wraps.
+#[tactic(auto, unfolding(crate::specs::Watching::since, crate::specs::Watching::silent))]
 fn is_silent(last: u32, time: u32) -> bool
     ensures { result ≡ silent last time }
 {
-    std::num::wrapping_sub_u32(time, last) >= Watch::SILENCE
-}
-
-// The last time after a check.
-fn last_after(reset: bool, last: u32, time: u32) -> u32
-    ensures { result ≡ (if reset then time else last) }
-{
-    if reset {
-        return time;
-    }
-    last
+    time.wrapping_sub(last) >= Watch::SILENCE
 }
 
 impl Watch {
@@ -64,43 +64,36 @@ impl Watch {
     pub fn heard(self, bus: u8, time: u32) -> Heard
         ensures { watch_after result ≡ hearing self bus time }
     {
-        let a = self.a;
-        let b = self.b;
-        if bus == 0 {
-            return Heard {
-                watch: Watch { a: time, b: b },
+        match bus {
+            0 => Heard {
+                watch: Watch { a: time, ..self },
                 answer: Ok(0),
-            };
-        }
-        if bus == 1 {
-            return Heard {
-                watch: Watch { a: a, b: time },
+            },
+            1 => Heard {
+                watch: Watch { b: time, ..self },
                 answer: Ok(1),
-            };
-        }
-        Heard {
-            watch: self,
-            answer: Err(Refusal::Field),
+            },
+            _ => Heard {
+                watch: self,
+                answer: Err(Refusal::Field),
+            },
         }
     }
 
     // Which buses are to be reset now. The last time of such a bus becomes now.
+    #[tactic(auto, unfolding(crate::specs::Watching::checking))]
     pub fn check(self, time: u32) -> Checked
         ensures { result ≡ checking self time }
     {
-        let a = self.a;
-        let b = self.b;
-        let reset_a = is_silent(a, time);
-        let reset_b = is_silent(b, time);
-        let next_a = last_after(reset_a, a, time);
-        let next_b = last_after(reset_b, b, time);
+        let a = is_silent(self.a, time);
+        let b = is_silent(self.b, time);
         Checked {
             watch: Watch {
-                a: next_a,
-                b: next_b,
+                a: if a { time } else { self.a },
+                b: if b { time } else { self.b },
             },
-            a: reset_a,
-            b: reset_b,
+            a,
+            b,
         }
     }
 }
