@@ -13,18 +13,18 @@ use Rattle.format.specs.declared.Fields.TheVariants.{Extended, Standard}
 use Rattle.format.specs.Tests.{all_true}
 use Rattle.format.specs.Formats.{in_range}
 use Rattle.format.proofs.Tests.{each, from_each}
+use Rattle.format.specs.declared.Refusal.{Refusal}
 use Rattle.format.specs.declared.Refusal.TheVariants.{State}
-use Rattle.format.specs.Refusals.{value, refused, number}
-use Rattle.format.proofs.Checks.{stop, pass, none_left, passed}
 use Rattle.slot.specs.declared.Key.{Key}
 use Rattle.slot.specs.declared.Slot.{Slot}
 use Rattle.std.specs.Prelude.{Option}
 use Rattle.slot.specs.declared.Stream.{Stream}
-use Rattle.std.specs.Prelude.{None, Some}
+use Rattle.std.specs.Prelude.{None, Some, Ok, Err, position}
 use Rattle.slot.specs.Slots.{same_fields, same_key, open_with, has_key, place}
 use Rattle.slot.specs.Sound.{key_in_range, slot_sound, slots_sound, any, repeated_in, keys_differ, sound, sought}
 use Rattle.slot.specs.Codes.{code_of, key_code, slot_code, codes_from, is, clashing}
 use Rattle.slot.proofs.Keys.{same_key_lem}
+use Rattle.slot.proofs.Places.{same_position, position_nowhere, position_some, position_none}
 use Rattle.slot.proofs.SoundLaws.{range_of, head_sound, rest_sound, out_of_range}
 
 alike : (x y : Bool) → (x ≡ true → y ≡ true) → (y ≡ true → x ≡ true) → x ≡ y
@@ -211,33 +211,42 @@ module _ (format : Format) (slots : List Slot) (sixteen : length slots ≡ 16) w
 
 -- the search for a key among the codes finds what the search among the slots finds: no key out of range is open in sound slots
 pub find_key : (format : Format) (slots : List Slot) (key : Key) (codes : List ℕ) → slots_sound format slots ≡ true → codes ≡ codes_from slots 0
-    → cond (key_in_range format key) (place (is (key_code key)) codes) (length codes) ≡ place (has_key key) slots
+    → cond (key_in_range format key) (position (is (key_code key)) codes) None ≡ position (has_key key) slots
 find_key format slots key codes s q = go (key_in_range format key) refl
   where
-    go : (b : Bool) → key_in_range format key ≡ b → cond b (place (is (key_code key)) codes) (length codes) ≡ place (has_key key) slots
-    go true r = ap (place (is (key_code key))) q ∙ place_codes format key slots 0 r s
-    go false r = ap length q ∙ codes_length slots 0 ∙ sym (out_of_range format key slots r s)
+    go : (b : Bool) → key_in_range format key ≡ b → cond b (position (is (key_code key)) codes) None ≡ position (has_key key) slots
+    go true r =
+        ap (position (is (key_code key))) q
+        ∙ same_position _ _ _ _ (place_codes format key slots 0 r s) (codes_length slots 0)
+    go false r = sym (position_nowhere _ _ (out_of_range format key slots r s))
 
 -- what is sought, by what was found out
 module _ (format : Format) (slots : List Slot) (key : Key) where
-  pub sought_unsound : sound format slots ≡ false → refused (number State) ≡ sought format slots key
-  sought_unsound e = stop State _ _ e
-
-  sought_at : (i : ℕ) → sound format slots ≡ true → i ≡ place (has_key key) slots → value i ≡ sought format slots key
-  sought_at i e q = ap value q ∙ pass State _ _ e (none_left _)
+  pub sought_unsound : sound format slots ≡ false → Err State ≡ sought format slots key
+  sought_unsound e = rw e refl
 
   -- by what the search among the codes found
-  pub sought_key : (codes : List ℕ) (i : ℕ) → slots_sound format slots ≡ true → codes ≡ codes_from slots 0 → sound format slots ≡ true
-      → i ≡ cond (key_in_range format key) (place (is (key_code key)) codes) (length codes) → value i ≡ sought format slots key
-  sought_key codes i s q e w = sought_at i e (w ∙ find_key format slots key codes s q)
+  pub sought_key : (codes : List ℕ) (found : Option ℕ) → slots_sound format slots ≡ true → codes ≡ codes_from slots 0 → sound format slots ≡ true
+      → found ≡ cond (key_in_range format key) (position (is (key_code key)) codes) None → Ok found ≡ sought format slots key
+  sought_key codes found s q e w = rw (e, w, find_key format slots key codes s q) refl
 
-  -- and back: what a search says of soundness
-  pub refused_unsound : (n : ℕ) → refused n ≡ sought format slots key → false ≡ sound format slots
-  refused_unsound n e = go (sound format slots) refl
+  -- and back: what a search says of soundness, and where it found the key
+  pub sought_refused : (name : Refusal) → Err name ≡ sought format slots key → (sound format slots ≡ false) × (name ≡ State)
+  sought_refused name q = go (sound format slots) refl q
     where
-      go : (b : Bool) → sound format slots ≡ b → false ≡ b
-      go true s = let q = sought_at (place (has_key key) slots) s refl in let z : ◌≡◌ {A = ℕ} 0 1 = cc in absurd (omega arith)
-      go false s = refl
+      go : (b : Bool) → sound format slots ≡ b → Err name ≡ cond b (Ok (position (has_key key) slots)) (Err State) → (b ≡ false) × (name ≡ State)
+      go true e q = cc
+      go false e q = (refl, cc)
 
-  pub value_sound : (i : ℕ) → value i ≡ sought format slots key → true ≡ sound format slots
-  value_sound i e = sym (passed _ _ _ (sym e)).0.0
+  pub sought_found : (found : Option ℕ) → Ok found ≡ sought format slots key → (sound format slots ≡ true) × (found ≡ position (has_key key) slots)
+  sought_found found q = go (sound format slots) q
+    where
+      go : (b : Bool) → Ok found ≡ cond b (Ok (position (has_key key) slots)) (Err State) → (b ≡ true) × (found ≡ position (has_key key) slots)
+      go true q = (refl, cc)
+      go false q = cc
+
+  pub sought_some : (i : ℕ) → Ok (Some i) ≡ sought format slots key → (sound format slots ≡ true) × (i ≡ place (has_key key) slots) × (i < length slots)
+  sought_some i q = let f = sought_found (Some i) q in let at = position_some (has_key key) slots i f.1 in (f.0, at.0, at.1)
+
+  pub sought_none : Ok None ≡ sought format slots key → (sound format slots ≡ true) × (place (has_key key) slots ≡ length slots)
+  sought_none q = let f = sought_found None q in (f.0, position_none (has_key key) slots f.1)

@@ -3,12 +3,15 @@ use Prim.Native.Nat.{ℕ, suc, ◌+◌, ◌≤◌, ◌<◌}
 use mathlib.Core.Path.{◌≡◌, refl, sym, ap, ◌∙◌}
 use mathlib.Core.Bool.{Bool, true, false, cond, ◌||◌}
 use mathlib.Core.List.{List, [], ◌∷◌}
-use native.Mathlib.Numerals.{add-one}
+use native.Mathlib.Numerals.{add-one, one-add}
 use native.Mathlib.Omega.{arith}
 use lib.Dec.{ltb}
 use lib.ListN.{length, drop, get_or, drop_of_length-le}
 use lib.Seq.{drop-cons}
 use borrow.Author.Tests.{ltb-true, ltb-false, lt-ltb, le-ltb}
+use Rattle.std.specs.Prelude.{None, Some, position}
+use Rattle.std.specs.List.{position_or_len}
+use Rattle.std.proofs.lemmas.List.Recursion.{is_position_or_len}
 use Rattle.slot.specs.Slots.{place}
 use Rattle.slot.specs.Sound.{any}
 
@@ -80,3 +83,33 @@ module _ {A : Type 0} (test : A → Bool) where
       go : (b : Bool) → any test xs ≡ ltb (place test xs) (length xs) → (b || any test xs) ≡ ltb (cond b 0 (suc (place test xs))) (suc (length xs))
       go true e = sym (lt-ltb 0 (suc (length xs)) (omega arith))
       go false e = e ∙ ltb_suc (place test xs) (length xs) (ltb (place test xs) (length xs)) refl
+
+-- the library's `position` says the same, and none where the place is past the end
+module _ {A : Type 0} (test : A → Bool) (l : List A) where
+  pub position_place : position test l ≡ cond (ltb (place test l) (length l)) (Some (place test l)) None
+  unfolding place
+  position_place =
+      let same : place test l ≡ position_or_len test l = is_position_or_len (place test) test refl (λ x xs. rw one-add refl) l in
+      rw same refl
+
+  pub position_some : (i : ℕ) → Some i ≡ position test l → (i ≡ place test l) × (i < length l)
+  position_some i q = go (ltb (place test l) (length l)) refl (q ∙ position_place)
+    where
+      go : (b : Bool) → ltb (place test l) (length l) ≡ b → Some i ≡ cond b (Some (place test l)) None → (i ≡ place test l) × (i < length l)
+      go true e q = let same : i ≡ place test l = cc in (same, omega (arith, ltb-true _ _ e))
+      go false e q = cc
+
+  pub position_none : None ≡ position test l → place test l ≡ length l
+  position_none q = go (ltb (place test l) (length l)) refl (q ∙ position_place)
+    where
+      go : (b : Bool) → ltb (place test l) (length l) ≡ b → None ≡ cond b (Some (place test l)) None → place test l ≡ length l
+      go true e q = cc
+      go false e q = omega (arith, ltb-false _ _ e, place_within test l)
+
+  pub position_nowhere : place test l ≡ length l → position test l ≡ None
+  position_nowhere e = let out : length l ≤ place test l = omega (arith, e) in position_place ∙ rw (le-ltb _ _ out) refl
+
+-- two searches through lists of one length that find one place
+pub same_position : {A B : Type 0} (test : A → Bool) (l : List A) (other : B → Bool) (m : List B) → place test l ≡ place other m → length l ≡ length m
+    → position test l ≡ position other m
+same_position test l other m e n = position_place test l ∙ rw (e, n) (sym (position_place other m))

@@ -1,11 +1,11 @@
 -- Document 01, "Streams and receiving", fourth paragraph: "A station is sound when open keys differ and are in range, h when
 -- collecting is a multiple of the piece size (8 to 2,048 extended, 7 to 1,785 standard), and h when done is within the format's
 -- limit." And it has 16 slots.
-use Rattle.std.specs.Prelude.{ℕ, ◌-◌, ◌%◌, Bool, true, false, not, ◌||◌, List, [], ◌∷◌, leb, eqb, length}
+use Rattle.std.specs.Prelude.{ℕ, ◌-◌, ◌%◌, Bool, true, false, not, ◌||◌, cond, List, [], ◌∷◌, leb, eqb, length, position}
 use Rattle.format.specs.declared.Format.{Format}
 use Rattle.format.specs.declared.Format.TheVariants.{Extended, Standard}
 use Rattle.format.specs.declared.Refusal.TheVariants.{State}
-use Rattle.format.specs.Refusals.{Result, check, guarded}
+use Rattle.format.specs.Refusals.{Returned}
 use Rattle.format.specs.Tests.{all_true}
 use Rattle.format.specs.Formats.{piece_size, packet_limit, format_of, in_range}
 use Rattle.stream.specs.declared.Progress.{Progress}
@@ -13,9 +13,9 @@ use Rattle.stream.specs.declared.Progress.TheVariants.{Idle, Collecting, Done}
 use Rattle.slot.specs.declared.Key.{Key}
 use Rattle.std.specs.Prelude.{Option}
 use Rattle.slot.specs.declared.Stream.{Stream}
-use Rattle.std.specs.Prelude.{None, Some}
+use Rattle.std.specs.Prelude.{None, Some, Ok, Err}
 use Rattle.slot.specs.declared.Slot.{Slot}
-use Rattle.slot.specs.Slots.{has_key, place}
+use Rattle.slot.specs.Slots.{has_key}
 
 abbrev pub same_format : Format → Format → Bool
 same_format Extended Extended = true
@@ -62,6 +62,6 @@ keys_differ (slot ∷ slots) = all_true (not (repeated_in slot.occupancy slots) 
 unfoldable pub sound : Format → List Slot → Bool
 sound format slots = all_true (eqb (length slots) 16 ∷ slots_sound format slots ∷ keys_differ slots ∷ [])
 
--- where a key is open, 16 if nowhere; STATE where the slots are not sound
-abbrev pub sought : Format → List Slot → Key → Result ℕ
-sought format slots key = guarded (check State (sound format slots) ∷ []) (place (has_key key) slots)
+-- where a key is open, none if nowhere; STATE where the slots are not sound
+abbrev pub sought : Format → List Slot → Key → Returned (Option ℕ)
+sought format slots key = cond (sound format slots) (Ok (position (has_key key) slots)) (Err State)

@@ -1,11 +1,10 @@
 // The sixteen slots of a station: keys, soundness, and which slot is open with a key.
 #![tactic(auto)]
 
-ghost use Rattle.std.specs.Prelude.{◌<◌, ◌≤◌, length, drop, true, cond, ◌≡◌};
+ghost use Rattle.std.specs.Prelude.{◌<◌, ◌≤◌, length, drop, true, cond, None, position, ◌≡◌};
 ghost use Rattle.format.specs.Formats.{format_of};
-ghost use Rattle.format.specs.Refusals.{meaning};
 ghost use Rattle.slot.specs.Codes.{key_code, slot_code, codes_from, is, clashing};
-ghost use Rattle.slot.specs.Slots.{same_fields, is_closed, closed, open_with, has_key, place};
+ghost use Rattle.slot.specs.Slots.{same_fields, same_key, is_closed, has_key};
 ghost use Rattle.slot.specs.Sound.{key_in_range, fits, slot_sound, slots_sound, any, sound, sought};
 ghost use Rattle.slot.specs.Bounds.{SlotBounds};
 
@@ -229,54 +228,27 @@ pub fn clash(codes: &[u32]) -> bool
     false
 }
 
-// The first place of the code, and how many there are if there is none.
-fn find_code(codes: &[u32], code: u32) -> usize
-    ensures { result ≡ place (is code) codes.now }
+fn find_code(codes: &[u32], code: u32) -> Option<usize>
+    ensures { result ≡ position (is code) codes.now }
 {
-    let mut i: usize = 0;
-    while i < codes.len() {
-        if codes[i] == code {
-            return i;
-        }
-        i += 1;
-    }
-    i
+    codes.iter().position(|&other| other == code)
 }
 
-// Where a key is among the codes of sound slots of the format; their number if nowhere. In sound slots
-// no key out of range is open.
-pub fn find_key(format: Format, codes: &[u32], key: Key) -> usize
-    ensures { result ≡ cond (key_in_range format key) (place (is (key_code key)) codes.now) (length codes.now) }
+// Where a key is among the codes of sound slots of the format. In sound slots no key out of range is open.
+pub fn find_key(format: Format, codes: &[u32], key: Key) -> Option<usize>
+    ensures { result ≡ cond (key_in_range format key) (position (is (key_code key)) codes.now) None }
 {
     if !key_in_range(format, key) {
-        return codes.len();
+        return None;
     }
     find_code(codes, key_code(&key))
 }
 
-fn is_closed(occupancy: Option<Stream>) -> bool
-    ensures { result ≡ closed occupancy }
+// The first closed slot.
+pub fn first_closed(slots: [Slot; 16]) -> Option<usize>
+    ensures { result ≡ position is_closed slots }
 {
-    match occupancy {
-        None => true,
-        Some(_) => false,
-    }
-}
-
-// The first closed slot, 16 if there is none.
-pub fn first_closed(slots: [Slot; 16]) -> usize
-    ensures { result ≡ place is_closed slots }
-{
-    let mut at: usize = 0;
-    while at < 16 {
-        let slot = slots[at];
-        let occupancy = slot.occupancy;
-        if is_closed(occupancy) {
-            return at;
-        }
-        at += 1;
-    }
-    16
+    slots.iter().position(|slot| slot.occupancy.is_none())
 }
 
 fn same_fields(a: Fields, b: Fields) -> bool
@@ -330,46 +302,29 @@ fn same_fields(a: Fields, b: Fields) -> bool
     }
 }
 
-fn open_with(key: Key, occupancy: Option<Stream>) -> bool
-    ensures { result ≡ open_with key occupancy }
+fn same_key(a: &Key, b: &Key) -> bool
+    ensures { result ≡ same_key a.now b.now }
 {
-    match occupancy {
-        None => false,
-        Some(stream) => {
-            let own = stream.key;
-            let a = own.fields;
-            let b = key.fields;
-            (own.bus == key.bus) & same_fields(a, b)
-        }
-    }
+    (a.bus == b.bus) & same_fields(a.fields, b.fields)
 }
 
-// The first slot that is open with the key, 16 if there is none. The slots need not be sound.
-pub fn find(slots: [Slot; 16], key: Key) -> usize
-    ensures { result ≡ place (has_key key) slots }
+// The first slot that is open with the key. The slots need not be sound.
+pub fn find(slots: [Slot; 16], key: Key) -> Option<usize>
+    ensures { result ≡ position (has_key key) slots }
 {
-    let mut k: usize = 0;
-    while k < 16 {
-        let slot = slots[k];
-        let occupancy = slot.occupancy;
-        if open_with(key, occupancy) {
-            return k;
-        }
-        k += 1;
-    }
-    16
+    slots.iter().position(|slot| {
+        slot.occupancy
+            .as_ref()
+            .is_some_and(|stream| same_key(&stream.key, &key))
+    })
 }
 
-// Where the key is open, 16 if nowhere, or STATE. Soundness is found out on the way, from the same
-// codes.
-pub fn seek(format: Format, slots: [Slot; 16], key: Key) -> Result<usize, Refusal>
-    ensures { meaning result ≡ sought format slots key }
+// Where the key is open, or STATE. Soundness is found out on the way, from the same codes.
+pub fn seek(format: Format, slots: [Slot; 16], key: Key) -> Result<Option<usize>, Refusal>
+    ensures { result ≡ sought format slots key }
 {
     let mut codes = [0u32; 16];
-    if !scan(format, slots, &mut codes) {
-        return Err(Refusal::State);
-    }
-    if clash(&codes) {
+    if !scan(format, slots, &mut codes) || clash(&codes) {
         return Err(Refusal::State);
     }
     Ok(find_key(format, &codes, key))
@@ -385,14 +340,7 @@ pub fn sound(format: Format, slots: [Slot; 16]) -> bool
         address: 0,
         side: 0,
     };
-    let key = Key {
-        bus: 0,
-        fields: fields,
-    };
-    match seek(format, slots, key) {
-        Err(_) => false,
-        Ok(_) => true,
-    }
+    seek(format, slots, Key { bus: 0, fields }).is_ok()
 }
 
 // The number of a key in range; 0 for any other.

@@ -1,20 +1,19 @@
 use Rattle.std.proofs.Common.{◌≡◌, ◌∙◌, sym, ap, not, length, arith}
 use Rattle.slot.proofs.CodeLaws.{unsound, sound_codes, sought_unsound, sought_key}
+use Rattle.slot.proofs.seek.Goals.{then-not-scan-via-then-not-scan, then-not-scan-via-else-not-scan+then-clash}
 use Rattle.slot.proofs.seek.Goals as goal
 
 pub returns-then-not-scan : goal.returns-then-not-scan
 returns-then-not-scan c =
     let a = c.args in
     let sixteen : length a.slots ≡ 16 = omega arith in
-    sought_unsound _ _ a.key (unsound a.format a.slots sixteen (sym c.scan.ensures.value ∙ c.if-not-scan.true))
-
-pub returns-then-clash : goal.returns-then-clash
-returns-then-clash c =
-    let a = c.args in
-    let sixteen : length a.slots ≡ 16 = omega arith in
-    let scanned = sym c.scan.ensures.value ∙ c.if-not-scan.false in
-    let told = sound_codes a.format a.slots sixteen _ scanned (c.scan.ensures.codes_after c.if-not-scan.false) in
-    sought_unsound _ _ _ (told ∙ ap not (sym c.clash.ensures ∙ c.if-clash.true))
+    elim c.then-not-scan.branch [
+      | then-not-scan-via-then-not-scan w ↦ sought_unsound _ _ a.key (unsound a.format a.slots sixteen (sym c.scan.ensures.value ∙ w.if-not-scan.true))
+      | then-not-scan-via-else-not-scan+then-clash w ↦
+          let scanned = sym c.scan.ensures.value ∙ w.if-not-scan.false in
+          let told = sound_codes a.format a.slots sixteen _ scanned (c.scan.ensures.codes_after w.if-not-scan.false) in
+          sought_unsound _ _ _ (told ∙ ap not (sym w.clash.ensures ∙ w.if-clash.true))
+    ]
 
 pub returns : goal.returns
 returns c =

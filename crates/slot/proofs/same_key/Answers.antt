@@ -1,8 +1,8 @@
 use Rattle.std.proofs.Common.{rules}
 use Rattle.format.specs.Tests.{all_true, all_after}
 use Rattle.slot.specs.Slots.{same_key}
-use Rattle.slot.proofs.open_with.Goals as goal
+use Rattle.slot.proofs.same_key.Goals as goal
 
-pub returns-in-Some : goal.returns-in-Some
+pub returns : goal.returns
 unfolding same_key all_true all_after
-returns-in-Some c = search rules
+returns c = search rules
