@@ -10,6 +10,11 @@ use Rattle.format.specs.declared.Flag.{Flag}
 use Rattle.format.specs.declared.Flag.TheVariants.{Middle, Start, End, Single}
 use Rattle.format.specs.Tests.{all_true}
 
+-- the one of the two that is a format's
+abbrev pub own : Format → ℕ → ℕ → ℕ
+own Extended extended standard = extended
+own Standard extended standard = standard
+
 -- most bytes in a packet
 abbrev pub packet_limit : Format → ℕ
 packet_limit Extended = 2048

@@ -3,17 +3,22 @@
 #![tactic(auto)]
 
 ghost use Rattle.std.specs.Prelude.{◌≡◌};
-ghost use Rattle.format.specs.Formats.{packet_limit, piece_size, header_size, number_range, flag_bits, numbered, packet_start, format_of, in_range};
+ghost use Rattle.format.specs.Formats.{packet_limit, piece_size, header_size, number_range, flag_bits, own, numbered, packet_start, format_of, in_range};
 ghost use Rattle.format.specs.Refusals.{number};
+ghost use Rattle.format.specs.Numbers.{format_number, Reads};
 ghost use Rattle.format.specs.Claims.{OneNumber, OneMeaning};
 ghost use Rattle.format.specs.Bounds.{FormatBounds};
 
+// A number that is none of a format's, a flag's or a refusal's.
+#[derive(Clone, Copy, Debug, PartialEq, Eq)]
+pub struct NoSuch(pub u8);
+
 // The extended format, with 29-bit identifiers.
-#[derive(Clone, Copy)]
+#[derive(Clone, Copy, Debug, PartialEq, Eq)]
 pub struct Extended;
 
 // The standard format, with 11-bit identifiers.
-#[derive(Clone, Copy)]
+#[derive(Clone, Copy, Debug, PartialEq, Eq)]
 pub struct Standard;
 
 impl Extended {
@@ -40,62 +45,52 @@ impl Standard {
     pub const NUMBER_RANGE: usize = 256;
 }
 
-#[derive(Clone, Copy)]
+#[derive(Clone, Copy, Debug, PartialEq, Eq)]
 pub enum Format {
-    Extended,
-    Standard,
+    Extended = 0,
+    Standard = 1,
 }
 
 impl Format {
+    // The one of the two that is this format's.
+    fn own(self, extended: usize, standard: usize) -> usize
+        ensures { result ≡ own self extended standard }
+    {
+        match self {
+            Format::Extended => extended,
+            Format::Standard => standard,
+        }
+    }
+
     pub fn packet_limit(self) -> usize
         ensures { result ≡ packet_limit self }
     {
-        match self {
-            Format::Extended => Extended::PACKET_LIMIT,
-            Format::Standard => Standard::PACKET_LIMIT,
-        }
+        self.own(Extended::PACKET_LIMIT, Standard::PACKET_LIMIT)
     }
 
     pub fn piece_size(self) -> usize
         ensures { result ≡ piece_size self }
     {
-        match self {
-            Format::Extended => Extended::PIECE_SIZE,
-            Format::Standard => Standard::PIECE_SIZE,
-        }
+        self.own(Extended::PIECE_SIZE, Standard::PIECE_SIZE)
     }
 
     pub fn header_size(self) -> usize
         ensures { result ≡ header_size self }
     {
-        match self {
-            Format::Extended => Extended::HEADER_SIZE,
-            Format::Standard => Standard::HEADER_SIZE,
-        }
+        self.own(Extended::HEADER_SIZE, Standard::HEADER_SIZE)
     }
 
     pub fn number_range(self) -> usize
         ensures { result ≡ number_range self }
     {
-        match self {
-            Format::Extended => Extended::NUMBER_RANGE,
-            Format::Standard => Standard::NUMBER_RANGE,
-        }
+        self.own(Extended::NUMBER_RANGE, Standard::NUMBER_RANGE)
     }
 
     // Whether the first data byte of such a piece is its number, and no packet byte.
     pub fn numbered(self, flag: Flag) -> bool
         ensures { result ≡ numbered self flag }
     {
-        match self {
-            Format::Extended => false,
-            Format::Standard => match flag {
-                Flag::Middle => true,
-                Flag::Start => true,
-                Flag::End => true,
-                Flag::Single => false,
-            },
-        }
+        self == Format::Standard && flag != Flag::Single
     }
 
     // Where in the image of such a piece its packet bytes begin; they run to the image's end.
@@ -103,14 +98,30 @@ impl Format {
         ensures { result ≡ packet_start self flag }
     {
         if self.numbered(flag) {
-            return self.header_size() + 1;
+            self.header_size() + 1
+        } else {
+            self.header_size()
         }
-        self.header_size()
+    }
+}
+
+// Programs and lent bytes number the formats so.
+impl TryFrom<u8> for Format {
+    type Error = NoSuch;
+
+    ghost try_from_gives = { Reads format_number };
+
+    fn try_from(number: u8) -> Result<Format, NoSuch> {
+        match number {
+            0 => Ok(Format::Extended),
+            1 => Ok(Format::Standard),
+            _ => Err(NoSuch(number)),
+        }
     }
 }
 
 // The identifier's fields, but for the flag and the number, which belong to a piece.
-#[derive(Clone, Copy)]
+#[derive(Clone, Copy, Debug, PartialEq, Eq)]
 pub enum Fields {
     Extended {
         priority: u8,
@@ -132,18 +143,8 @@ impl Fields {
         ensures { result ≡ format_of self }
     {
         match self {
-            Fields::Extended {
-                priority: _,
-                source: _,
-                group: _,
-                destination: _,
-                function: _,
-            } => Format::Extended,
-            Fields::Standard {
-                priority: _,
-                address: _,
-                side: _,
-            } => Format::Standard,
+            Fields::Extended { .. } => Format::Extended,
+            Fields::Standard { .. } => Format::Standard,
         }
     }
 
@@ -173,13 +174,13 @@ impl Fields {
     }
 }
 
-// What piece of its packet a frame is.
-#[derive(Clone, Copy)]
+// What piece of its packet a frame is, with the two bits of its flag in an image.
+#[derive(Clone, Copy, Debug, PartialEq, Eq)]
 pub enum Flag {
-    Middle,
-    Start,
-    End,
-    Single,
+    Middle = 0,
+    Start = 1,
+    End = 2,
+    Single = 3,
 }
 
 impl Flag {
@@ -187,71 +188,92 @@ impl Flag {
     pub fn bits(self) -> u8
         ensures { result ≡ flag_bits self }
     {
-        match self {
-            Flag::Middle => 0,
-            Flag::Start => 1,
-            Flag::End => 2,
-            Flag::Single => 3,
+        self as u8
+    }
+}
+
+impl TryFrom<u8> for Flag {
+    type Error = NoSuch;
+
+    ghost try_from_gives = { Reads flag_bits };
+
+    fn try_from(bits: u8) -> Result<Flag, NoSuch> {
+        match bits {
+            0 => Ok(Flag::Middle),
+            1 => Ok(Flag::Start),
+            2 => Ok(Flag::End),
+            3 => Ok(Flag::Single),
+            _ => Err(NoSuch(bits)),
         }
     }
 }
 
-// Why a call refused; the documents' name for each number, in the order of the numbers, which have
-// gaps.
-#[derive(Clone, Copy)]
+// Why a call refused; the documents' name for each number. The numbers have gaps.
+#[derive(Clone, Copy, Debug, PartialEq, Eq)]
 pub enum Refusal {
-    Length,
-    Form,
-    Remote,
-    Count,
-    Piece,
-    Orphan,
-    Step,
-    Long,
-    Field,
-    Size,
-    Index,
-    Room,
-    Store,
-    Taken,
-    Full,
-    Closed,
-    NoPacket,
-    Busy,
-    Idle,
-    NotAwaited,
-    State,
-    Surplus,
+    Length = 1,
+    Form = 2,
+    Remote = 3,
+    Count = 4,
+    Piece = 5,
+    Orphan = 6,
+    Step = 7,
+    Long = 8,
+    Field = 9,
+    Size = 10,
+    Index = 11,
+    Room = 12,
+    Store = 13,
+    Taken = 14,
+    Full = 15,
+    Closed = 16,
+    NoPacket = 17,
+    Busy = 18,
+    Idle = 19,
+    NotAwaited = 20,
+    State = 21,
+    Surplus = 25,
+}
+
+impl TryFrom<u8> for Refusal {
+    type Error = NoSuch;
+
+    ghost try_from_gives = { Reads number };
+
+    fn try_from(number: u8) -> Result<Refusal, NoSuch> {
+        match number {
+            1 => Ok(Refusal::Length),
+            2 => Ok(Refusal::Form),
+            3 => Ok(Refusal::Remote),
+            4 => Ok(Refusal::Count),
+            5 => Ok(Refusal::Piece),
+            6 => Ok(Refusal::Orphan),
+            7 => Ok(Refusal::Step),
+            8 => Ok(Refusal::Long),
+            9 => Ok(Refusal::Field),
+            10 => Ok(Refusal::Size),
+            11 => Ok(Refusal::Index),
+            12 => Ok(Refusal::Room),
+            13 => Ok(Refusal::Store),
+            14 => Ok(Refusal::Taken),
+            15 => Ok(Refusal::Full),
+            16 => Ok(Refusal::Closed),
+            17 => Ok(Refusal::NoPacket),
+            18 => Ok(Refusal::Busy),
+            19 => Ok(Refusal::Idle),
+            20 => Ok(Refusal::NotAwaited),
+            21 => Ok(Refusal::State),
+            25 => Ok(Refusal::Surplus),
+            _ => Err(NoSuch(number)),
+        }
+    }
 }
 
 impl Refusal {
     pub fn number(self) -> u8
         ensures { result ≡ number self }
     {
-        match self {
-            Refusal::Length => 1,
-            Refusal::Form => 2,
-            Refusal::Remote => 3,
-            Refusal::Count => 4,
-            Refusal::Piece => 5,
-            Refusal::Orphan => 6,
-            Refusal::Step => 7,
-            Refusal::Long => 8,
-            Refusal::Field => 9,
-            Refusal::Size => 10,
-            Refusal::Index => 11,
-            Refusal::Room => 12,
-            Refusal::Store => 13,
-            Refusal::Taken => 14,
-            Refusal::Full => 15,
-            Refusal::Closed => 16,
-            Refusal::NoPacket => 17,
-            Refusal::Busy => 18,
-            Refusal::Idle => 19,
-            Refusal::NotAwaited => 20,
-            Refusal::State => 21,
-            Refusal::Surplus => 25,
-        }
+        self as u8
     }
 }
 
