@@ -12,7 +12,7 @@ use denote.Struct.Field.{Field}
 use denote.Enum.Declared.{Choice}
 use Rattle.format.specs.declared.Refusal.{Refusal}
 use Rattle.std.specs.Prelude.{Err, Ok}
-use Rattle.format.specs.Refusals.{number}
+use Rattle.format.specs.Refusals.{Result, value, refused, number, Returned, meaning}
 use Rattle.format.specs.Tests.{all_after, all_true}
 use Rattle.format.specs.Claims.{OneNumber, OneMeaning}
 use Rattle.format.specs.contracts.Refusal.{the_parts as parts, as_values, the_make as make, the_eta as eta}
@@ -83,9 +83,33 @@ one_number a b e =
     let same = one_choice parts tt (λ c. number (make c)) refl (as_values a) (as_values b) (ap number (eta a) ∙ e ∙ ap number (sym (eta b))) in
     sym (eta a) ∙ ap make same ∙ eta b
 
+-- ---- answers
+
+one_value : {B : Type 0} {x y : B} → value x ≡ value y → x ≡ y
+one_value e = cc
+
+no_value : {B : Type 0} {x : B} {n : ℕ} → value x ≡ refused n → ⊥
+no_value e = let z : ◌≡◌ {A = ℕ} 0 1 = cc in omega arith
+
+one_refused : {B : Type 0} {m n : ℕ} → ◌≡◌ {A = Result B} (refused m) (refused n) → m ≡ n
+one_refused e = cc
+
+-- a meaning leaves no doubt which answer it is, where what it says of a value can be read back, and of a refusal it says the number:
+-- then answers of one meaning are the same
+pub one_of : {A B : Type 0} (means : Returned A → Result B) (back : B → A)
+    → ((a : A) → (b : B) × ((means (Ok a) ≡ value b) × (back b ≡ a)))
+    → ((name : Refusal) → means (Err name) ≡ refused (number name))
+    → (a b : Returned A) → means a ≡ means b → a ≡ b
+unfolding OneNumber
+one_of means back told by_number (Ok a) (Ok b) e =
+    let s = told a in
+    let t = told b in
+    let i : s.0 ≡ t.0 = one_value (sym s.1.0 ∙ e ∙ t.1.0) in
+    ap Ok (sym s.1.1 ∙ ap back i ∙ t.1.1)
+one_of means back told by_number (Ok a) (Err n) e = absurd (no_value (sym (told a).1.0 ∙ e ∙ by_number n))
+one_of means back told by_number (Err m) (Ok b) e = absurd (no_value (sym (told b).1.0 ∙ sym e ∙ by_number m))
+one_of means back told by_number (Err m) (Err n) e = ap Err (one_number m n (one_refused (sym (by_number m) ∙ e ∙ by_number n)))
+
 pub one_meaning : OneMeaning
-unfolding OneMeaning OneNumber
-one_meaning (Ok m) (Ok n) e = let i : m ≡ n = cc in ap Ok i
-one_meaning (Ok m) (Err b) e = let z : ◌≡◌ {A = ℕ} 0 1 = cc in absurd (omega arith)
-one_meaning (Err a) (Ok n) e = let z : ◌≡◌ {A = ℕ} 0 1 = cc in absurd (omega arith)
-one_meaning (Err a) (Err b) e = let i : number a ≡ number b = cc in ap Err (one_number a b i)
+unfolding OneMeaning
+one_meaning = one_of meaning (λ n. n) (λ n. (n, (refl, refl))) (λ name. refl)
