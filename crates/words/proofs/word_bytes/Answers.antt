@@ -1,8 +1,0 @@
--- Each byte is the definition's.
-use Rattle.std.proofs.Common.{rules}
-use Rattle.words.specs.Words.{word_bytes}
-use Rattle.words.proofs.word_bytes.Goals as goal
-
-pub returns : goal.returns
-unfolding word_bytes
-returns c = search rules
