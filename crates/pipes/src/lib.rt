@@ -32,17 +32,11 @@ pub fn keep(input: &mut [u8], at: usize, held: usize) -> usize
     ensures value { result ≡ left input.old at held }
     ensures input_after { input.new ≡ moved input.old at held }
 {
-    if held > input.len() {
+    if held > input.len() || at > held {
         return 0;
     }
-    let mut to = 0;
-    let mut from = at;
-    while from < held {
-        input[to] = input[from];
-        to += 1;
-        from += 1;
-    }
-    to
+    input.copy_within(at..held, 0);
+    held - at
 }
 
 // Writes the first bytes of the output, and answers whether all of them were. Standard error says
@@ -50,10 +44,10 @@ pub fn keep(input: &mut [u8], at: usize, held: usize) -> usize
 pub fn write_out(rt: &(impl Print + Eprint), output: &[u8], filled: usize) -> bool
     ensures { length output.now < filled → result ≡ false }
 {
-    if filled > output.len() {
+    let Some(bytes) = output.get(..filled) else {
         return false;
-    }
-    match Print::write_all(rt, &output[0..filled]) {
+    };
+    match Print::write_all(rt, bytes) {
         Ok(()) => true,
         Err(e) => {
             if e.kind() != ErrorKind::BrokenPipe {
