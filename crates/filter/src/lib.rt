@@ -2,19 +2,19 @@
 // image, that is priority (2 bits), source (6), group (2) and destination (6).
 #![tactic(auto)]
 
-ghost use Rattle.std.specs.Prelude.{◌≡◌, ◌+◌, ◌*◌};
+ghost use Rattle.std.specs.Prelude.{◌≡◌};
 ghost use Rattle.filter.specs.Filters.{accepts, either_accepts, row_pair};
 ghost use Rattle.filter.specs.Claims.{InImage};
 ghost use Rattle.filter.specs.Examples.{FilterExamples};
 
 // A mask bit that is 1 lets any identifier bit pass.
-#[derive(Clone, Copy)]
+#[derive(Clone, Copy, Debug, PartialEq, Eq)]
 pub struct Filter {
     pub code: u16,
     pub mask: u16,
 }
 
-#[derive(Clone, Copy)]
+#[derive(Clone, Copy, Debug, PartialEq, Eq)]
 pub struct Pair {
     pub first: Filter,
     pub second: Filter,
@@ -26,17 +26,9 @@ impl Filter {
     pub fn accepts(self, id: u16) -> bool
         ensures { result ≡ accepts self id }
     {
-        let code = self.code;
-        let mask = self.mask;
+        let Filter { code, mask } = self;
         ((id ^ code) | mask) == mask
     }
-}
-
-// Two registers as one number, the one for ID.28 to ID.21 first.
-fn joined(high: u8, low: u8) -> u16
-    ensures { result ≡ high * 256 + low }
-{
-    (high as u16) * 256 + (low as u16)
 }
 
 impl Pair {
@@ -45,24 +37,25 @@ impl Pair {
     pub fn accepts(self, id: u16) -> bool
         ensures { result ≡ either_accepts self id }
     {
-        let first = self.first;
-        let second = self.second;
-        first.accepts(id) | second.accepts(id)
+        self.first.accepts(id) || self.second.accepts(id)
     }
 
     // The pair of a row of Table A.1: code 0, mask 0, code 1, mask 1, code 2, mask 2, code 3, mask 3.
+    #[tactic(auto, unfolding(crate::specs::Filters::row_pair))]
     pub fn from_row(row: [u8; 8]) -> Pair
         ensures { result ≡ row_pair row }
     {
-        let first = Filter {
-            code: joined(row[0], row[2]),
-            mask: joined(row[1], row[3]),
-        };
-        let second = Filter {
-            code: joined(row[4], row[6]),
-            mask: joined(row[5], row[7]),
-        };
-        Pair { first, second }
+        let [code0, mask0, code1, mask1, code2, mask2, code3, mask3] = row;
+        Pair {
+            first: Filter {
+                code: u16::from_be_bytes([code0, code1]),
+                mask: u16::from_be_bytes([mask0, mask1]),
+            },
+            second: Filter {
+                code: u16::from_be_bytes([code2, code3]),
+                mask: u16::from_be_bytes([mask2, mask3]),
+            },
+        }
     }
 }
 
