@@ -1,16 +1,15 @@
 -- Which way a length is wrong: COUNT exactly for an image too short for its count, SURPLUS exactly for one too long.
-use Prim.Native.Nat.{ℕ, ◌+◌, ◌-◌, ◌<◌}
-use mathlib.Core.Path.{◌≡◌, refl, sym, ap}
+use Prim.Native.Nat.{ℕ, ◌+◌, ◌<◌}
+use mathlib.Core.Path.{◌≡◌, refl}
 use mathlib.Core.Logic.{◌≢◌}
 use mathlib.Core.List.{List}
 use native.Mathlib.Omega.{arith}
-use lib.Dec.{eqb}
 use lib.ListN.{length}
 use borrow.Author.Tests.{leb-false}
 use Rattle.format.specs.declared.Format.{Format}
 use Rattle.format.specs.declared.Refusal.TheVariants.{Count, Surplus}
 use Rattle.format.specs.Formats.{header_size}
-use Rattle.format.specs.Refusals.{refused, number}
+use Rattle.format.specs.Refusals.{refused, number, guarded}
 use Rattle.format.proofs.Checks.{refused_where}
 use Rattle.frame.specs.declared.Layout.{Layout}
 use Rattle.frame.specs.Layout.{layout}
@@ -18,7 +17,8 @@ use Rattle.frame.specs.Judge.{data_count, checks, judge}
 use Rattle.frame.specs.Image.{count_code}
 use Rattle.frame.specs.Claims.{PassesThree, WhichWay}
 use Rattle.frame.proofs.Passing.{passes}
-use Rattle.frame.proofs.JudgeLaws.{ByLength, by_length}
+use Rattle.std.proofs.lemmas.Grind.{common_steps}
+use Rattle.format.specs.Tests.{all_true, all_after}
 
 module _ (format : Format) (image : List ℕ) where
   abbrev said : Layout
@@ -59,17 +59,13 @@ module _ (format : Format) (image : List ℕ) where
       )
       _ n e
 
-  refusals : PassesThree format image
-      → ByLength format image said (data_count said.code) (length image - header_size format) (data_count said.code)
-  refusals p =
-      by_length format image said refl (header_size format) refl p.least (omega (arith, p.most)) p.formed
-      (ap (λ n. eqb n 0) p.data_frame) _ refl _ refl
-
   short_refused : PassesThree format image → length image < expected → judge format image ≡ refused (number Count)
-  short_refused p h = sym ((refusals p).fewer (omega (arith, h, p.least)))
+  unfolding judge checks guarded all_true all_after
+  short_refused p h = grind (arith, common_steps, p.least, p.most, p.formed, p.data_frame)
 
   long_refused : PassesThree format image → expected < length image → judge format image ≡ refused (number Surplus)
-  long_refused p h = sym ((refusals p).more (omega (arith, h)))
+  unfolding judge checks guarded all_true all_after
+  long_refused p h = grind (arith, common_steps, p.least, p.most, p.formed, p.data_frame)
 
 pub which_way : WhichWay
 which_way =

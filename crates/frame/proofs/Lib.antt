@@ -1,6 +1,5 @@
 pub mod Flags
 mod Passing
-mod JudgeLaws
 mod CountCodes
 pub mod Images
 pub mod Judged

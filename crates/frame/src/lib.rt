@@ -1,10 +1,10 @@
 // Frame images: what the bytes of one image say, and whether they are a sound frame.
 #![tactic(auto)]
 
-ghost use Rattle.std.specs.Prelude.{◌≡◌, cond, ◌≤◌, length, get_or};
+ghost use Rattle.std.specs.Prelude.{◌≡◌, ◌≤◌, length};
 ghost use Rattle.format.specs.Formats.{header_size};
 ghost use Rattle.frame.specs.Layout.{flag_of, layout};
-ghost use Rattle.frame.specs.Judge.{data_count, piece_rule, judge, meaning};
+ghost use Rattle.frame.specs.Judge.{piece_rule, judge, meaning};
 ghost use Rattle.frame.specs.Claims.{ImageIsJudged, JudgedIsImage, OneImage, OneVerdict};
 ghost use Rattle.frame.specs.Claims.{CodesAlike, EachCodeIsJudged, CountSent, WhichWay};
 ghost use Rattle.frame.specs.Bounds.{JudgingBounds};
@@ -32,93 +32,69 @@ pub struct Head {
     pub start: usize,
 }
 
-fn wide(x: u8) -> usize
-    ensures { result ≡ x }
-{
-    x as usize
-}
-
-fn flag_of(bits: u8) -> Flag
+// The flag that the two bits of an image are.
+#[tactic(auto, unfolding(crate::specs::Layout::flag_of))]
+pub fn flag_of(bits: u8) -> Flag
     ensures { result ≡ flag_of bits }
 {
-    if bits == 1 {
-        return Flag::Start;
+    match bits {
+        0 => Flag::Middle,
+        1 => Flag::Start,
+        2 => Flag::End,
+        _ => Flag::Single,
     }
-    if bits == 0 {
-        return Flag::Middle;
-    }
-    if bits == 2 {
-        return Flag::End;
-    }
-    Flag::Single
 }
 
+#[tactic(auto, unfolding(crate::specs::Layout::layout, format::specs::Tests::all_true, format::specs::Tests::all_after))]
 fn layout_extended(image: &[u8]) -> Layout
     requires { header_size Format.Extended ≤ length image.now }
     ensures { result ≡ layout Format.Extended image.now }
 {
-    let b0 = image[0];
-    let b1 = image[1];
-    let b2 = image[2];
-    let b3 = image[3];
-    let b4 = image[4];
-    let flag = flag_of(b3 / 64);
-    let start = Format::Extended.packet_start(flag);
-    let fields = Fields::Extended {
-        priority: b1 / 64,
-        source: b1 % 64,
-        group: b2 / 64,
-        destination: b2 % 64,
-        function: b4 / 8,
+    let [b0, b1, b2, b3, b4, ..] = *image else {
+        unreachable!()
     };
+    let flag = flag_of(b3 / 64);
     Layout {
         fixed: (b0 / 128 == 1) & (b0 / 16 % 4 == 0) & (b4 % 8 == 0),
         rtr: b0 / 64 % 2,
         code: b0 % 16,
-        fields: fields,
-        flag: flag,
+        fields: Fields::Extended {
+            priority: b1 / 64,
+            source: b1 % 64,
+            group: b2 / 64,
+            destination: b2 % 64,
+            function: b4 / 8,
+        },
+        flag,
         number: b3 % 64,
-        start: start,
+        start: Format::Extended.packet_start(flag),
     }
 }
 
-// The byte at 2, which in a start, middle or end piece is the number; 0 where there is none.
-fn number_byte(image: &[u8]) -> u8
-    ensures { result ≡ get_or image.now 2 0 }
-{
-    if 2 < image.len() { image[2] } else { 0 }
-}
-
-fn number_if(numbered: bool, first: u8) -> u8
-    ensures { result ≡ cond numbered first 0 }
-{
-    if numbered { first } else { 0 }
-}
-
+#[tactic(auto, unfolding(crate::specs::Layout::layout, format::specs::Tests::all_true, format::specs::Tests::all_after))]
 fn layout_standard(image: &[u8]) -> Layout
     requires { header_size Format.Standard ≤ length image.now }
     ensures { result ≡ layout Format.Standard image.now }
 {
-    let b0 = image[0];
-    let b1 = image[1];
+    let [b0, b1, ..] = *image else { unreachable!() };
     let flag = flag_of(b1 / 32 % 4);
-    let numbered = Format::Standard.numbered(flag);
-    let first = number_byte(image);
-    let number = number_if(numbered, first);
-    let start = Format::Standard.packet_start(flag);
-    let fields = Fields::Standard {
-        priority: b0 / 64,
-        address: b0 % 64,
-        side: b1 / 128,
+    // In a start, middle or end piece the first data byte is the number.
+    let number = match *image {
+        [_, _, number, ..] if Format::Standard.numbered(flag) => number,
+        _ => 0,
     };
     Layout {
         fixed: true,
         rtr: b1 / 16 % 2,
         code: b1 % 16,
-        fields: fields,
-        flag: flag,
-        number: number,
-        start: start,
+        fields: Fields::Standard {
+            priority: b0 / 64,
+            address: b0 % 64,
+            side: b1 / 128,
+        },
+        flag,
+        number,
+        start: Format::Standard.packet_start(flag),
     }
 }
 
@@ -132,28 +108,17 @@ fn layout_of(format: Format, image: &[u8]) -> Layout
     }
 }
 
-// How many data bytes a count code says: those over 8 say eight.
-fn data_count(code: u8) -> u8
-    ensures { result ≡ data_count code }
+#[tactic(auto, unfolding(crate::specs::Judge::piece_rule, format::specs::Tests::all_true, format::specs::Tests::all_after))]
+fn piece_rule(format: Format, flag: Flag, count: u8, number: u8) -> bool
+    ensures { result ≡ piece_rule format flag count number }
 {
-    if 9 <= code { 8 } else { code }
-}
-
-fn middle_rule(format: Format, count: u8, number: u8) -> bool
-    ensures { result ≡ piece_rule format Flag.Middle count number }
-{
-    match format {
-        Format::Extended => count == 8,
-        Format::Standard => (count == 8) & (1 <= number) & (number <= 254),
-    }
-}
-
-fn end_rule(format: Format, count: u8, number: u8) -> bool
-    ensures { result ≡ piece_rule format Flag.End count number }
-{
-    match format {
-        Format::Extended => (1 <= count) & (count <= 8),
-        Format::Standard => {
+    match (flag, format) {
+        (Flag::Single, _) => (count <= 8) & (number == 0),
+        (Flag::Start, _) => (count == 8) & (number == 0),
+        (Flag::Middle, Format::Extended) => count == 8,
+        (Flag::Middle, Format::Standard) => (count == 8) & (1 <= number) & (number <= 254),
+        (Flag::End, Format::Extended) => (1 <= count) & (count <= 8),
+        (Flag::End, Format::Standard) => {
             (1 <= number)
                 & (number <= 255)
                 & (2 <= count)
@@ -163,62 +128,45 @@ fn end_rule(format: Format, count: u8, number: u8) -> bool
     }
 }
 
-fn piece_rule(format: Format, flag: Flag, count: u8, number: u8) -> bool
-    ensures { result ≡ piece_rule format flag count number }
-{
-    match flag {
-        Flag::Middle => middle_rule(format, count, number),
-        Flag::Start => (count == 8) & (number == 0),
-        Flag::End => end_rule(format, count, number),
-        Flag::Single => (count <= 8) & (number == 0),
-    }
-}
-
 // Judges an image of any bytes and any length: the frame that it is, or the first refusal of 1 to
 // 4, 25 and 5 that applies.
+#[tactic(auto, unfolding(crate::specs::Judge::judge, crate::specs::Judge::checks, format::specs::Refusals::guarded, format::specs::Tests::all_true, format::specs::Tests::all_after))]
 pub fn judge(format: Format, image: &[u8]) -> Result<Head, Refusal>
     ensures { meaning result image.now ≡ judge format image.now }
 {
-    let n = image.len();
-    let header = format.header_size();
-    if n < header {
+    let Some(size) = image.len().checked_sub(format.header_size()) else {
         return Err(Refusal::Length);
-    }
-    if n - header > 8 {
+    };
+    if size > 8 {
         return Err(Refusal::Length);
     }
     let l = layout_of(format, image);
-    // What the two tests ask; their order is the order of the refusals.
-    let formed = l.fixed;
-    let data_frame = l.rtr == 0;
-    if !formed {
+    if !l.fixed {
         return Err(Refusal::Form);
     }
-    if !data_frame {
+    if l.rtr != 0 {
         return Err(Refusal::Remote);
     }
-    let code = l.code;
-    let count = data_count(code);
-    let said = wide(count);
+    // The codes over 8 say eight too.
+    let count = l.code.min(8);
     // Most lengths are right: one test for them, and a second for which way one is wrong.
-    if n - header != said {
-        if n - header < said {
-            return Err(Refusal::Count);
-        }
-        return Err(Refusal::Surplus);
+    let said = usize::from(count);
+    if size != said {
+        return Err(if size < said {
+            Refusal::Count
+        } else {
+            Refusal::Surplus
+        });
     }
-    let flag = l.flag;
-    if !piece_rule(format, flag, count, l.number) {
+    if !piece_rule(format, l.flag, count, l.number) {
         return Err(Refusal::Piece);
     }
-    let fields = l.fields;
-    let head = Head {
-        fields: fields,
-        flag: flag,
+    Ok(Head {
+        fields: l.fields,
+        flag: l.flag,
         number: l.number,
         start: l.start,
-    };
-    Ok(head)
+    })
 }
 
 // The claims of this crate. It does nothing: its contract ties each claim to its proof.

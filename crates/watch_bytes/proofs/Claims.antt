@@ -19,9 +19,10 @@ use Rattle.words.proofs.Laws as words
 use Rattle.watch.specs.declared.Heard.{Heard}
 use Rattle.watch.specs.declared.Checked.{Checked}
 use Rattle.watch.specs.Watching as watching
+use Rattle.watch.specs.Watching.{resets}
 use Rattle.watch.specs.Claims as watches
 use Rattle.watch.proofs.Claims.{refused_keeps as watch-keeps, no_reset_keeps}
-use Rattle.watch_bytes.specs.States.{WatchBytesAfter, layout_number, state_bytes, watch_in, is_state, not_state, on_state, renew, hearing, resets, checking}
+use Rattle.watch_bytes.specs.States.{WatchBytesAfter, layout_number, state_bytes, watch_in, is_state, not_state, on_state, renew, hearing, checking}
 use Rattle.watch_bytes.specs.Claims.{ReadBack, WrittenIsState, WrittenBack, NoWatches, RefusedKeeps, Examples}
 
 pub read_back : ReadBack

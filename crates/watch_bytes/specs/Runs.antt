@@ -2,9 +2,10 @@
 use Rattle.std.specs.Prelude.{ℕ, ◌^◌, ◌<◌, ◌≡◌, List, [], ◌∷◌, map}
 use Rattle.format.specs.Refusals.{Result, value}
 use Rattle.watch.specs.declared.Watch.{Watch}
+use Rattle.watch.specs.Watching.{resets}
 use Rattle.watch.specs.Runs as runs
 use Rattle.watch.specs.Runs.{Call, hear, check, Said, time_of}
-use Rattle.watch_bytes.specs.States.{WatchBytesAfter, hearing, resets, checking}
+use Rattle.watch_bytes.specs.States.{WatchBytesAfter, hearing, checking}
 
 -- what a call gives by its contract
 abbrev pub call_in : List ℕ → Call → WatchBytesAfter

@@ -3,7 +3,7 @@
 -- reset and its last time becomes now." Here the watch is in 9 bytes that a caller lends: the last heard time of bus A, then that of
 -- bus B, each four bytes, low byte first (Words), last the number of this layout. Any other number of bytes, or another layout, is no
 -- watch's: it is refused as 21 (STATE), before all else, and the bytes stay.
-use Rattle.std.specs.Prelude.{ℕ, Bool, true, false, cond, List, [], ◌∷◌, ◌++◌, eqb, length, get_or}
+use Rattle.std.specs.Prelude.{ℕ, Bool, cond, List, [], ◌∷◌, ◌++◌, eqb, length, get_or}
 use Rattle.format.specs.declared.Refusal.TheVariants.{State}
 use Rattle.format.specs.Refusals.{Returned}
 use Rattle.format.specs.Refusals.{Result, value, refused, number, meaning}
@@ -12,6 +12,7 @@ use Rattle.words.specs.Words.{word_bytes, word_at}
 use Rattle.watch.specs.declared.Watch.{Watch}
 use Rattle.watch.specs.declared.Checked.{Checked}
 use Rattle.watch.specs.Watching as watching
+use Rattle.watch.specs.Watching.{resets}
 
 -- a release that writes other bytes for a watch gives them another number
 abbrev pub layout_number : ℕ
@@ -52,13 +53,6 @@ renew state time =
 
 unfoldable pub hearing : List ℕ → (bus time : ℕ) → WatchBytesAfter
 hearing state bus time = on_state state (heard_in_bytes (watching.hearing (watch_in state) bus time))
-
--- which buses are to be reset: 0 none, 1 A, 2 B, 3 both
-abbrev pub resets : (a b : Bool) → ℕ
-resets false false = 0
-resets true false = 1
-resets false true = 2
-resets true true = 3
 
 abbrev pub checked_in_bytes : Checked → WatchBytesAfter
 checked_in_bytes given = record { answer = value (resets given.a given.b); state = state_bytes given.watch }

@@ -2,11 +2,10 @@
 // low byte first, and the layout's number.
 #![tactic(auto)]
 
-ghost use Rattle.std.specs.Prelude.{◌≡◌, length};
+ghost use Rattle.std.specs.Prelude.{◌≡◌, true, false, MatchResult, length};
 ghost use Rattle.watch_bytes.specs.States as states;
 ghost use Rattle.watch_bytes.specs.Claims as claims;
 
-use copying::copy_in;
 use format::Refusal;
 use watch::Watch;
 use words::{word_bytes, word_of};
@@ -21,36 +20,29 @@ impl State {
     pub const LAYOUT: u8 = 1;
 }
 
-// Whether the bytes are a watch's.
-#[tactic(auto, unfolding(crate::specs::States::is_state, format::specs::Tests::all_true))]
-fn is_state(state: &[u8]) -> bool
-    ensures { result ≡ states.is_state state.now }
+// The bytes of a watch.
+#[tactic(auto, unfolding(crate::specs::States::state_bytes, words::specs::Words::word_bytes))]
+fn state_bytes(watch: Watch) -> [u8; State::SIZE]
+    ensures value { result ≡ states.state_bytes watch }
+    ensures nine { length result ≡ 9 }
 {
-    if state.len() != State::SIZE {
-        return false;
-    }
-    state[8] == State::LAYOUT
+    let [a0, a1, a2, a3] = word_bytes(watch.a);
+    let [b0, b1, b2, b3] = word_bytes(watch.b);
+    [a0, a1, a2, a3, b0, b1, b2, b3, State::LAYOUT]
 }
 
-fn put(state: &mut [u8], watch: Watch)
-    requires { length state.old ≡ 9 }
-    ensures { state.new ≡ states.state_bytes watch }
+// The watch in the bytes, or STATE where they are no watch's.
+#[tactic(auto, unfolding(crate::specs::States::watch_in, crate::specs::States::is_state, words::specs::Words::word_at, format::specs::Tests::all_true, format::specs::Tests::all_after))]
+fn load(state: &[u8]) -> Result<Watch, Refusal>
+    ensures { MatchResult result (λ watch. (states.is_state state.now ≡ true) × (watch ≡ states.watch_in state.now)) (λ name. (states.is_state state.now ≡ false) × (name ≡ Refusal.State)) }
 {
-    let a = word_bytes(watch.a);
-    let b = word_bytes(watch.b);
-    copy_in(state, 0, &a);
-    copy_in(state, 4, &[b[0], b[1], b[2], b[3], State::LAYOUT]);
-}
-
-#[tactic(auto, unfolding(crate::specs::States::watch_in, words::specs::Words::word_at))]
-fn load(state: &[u8]) -> Watch
-    requires { length state.now ≡ 9 }
-    ensures { result ≡ states.watch_in state.now }
-{
-    Watch {
-        a: word_of(state[0], state[1], state[2], state[3]),
-        b: word_of(state[4], state[5], state[6], state[7]),
-    }
+    let [a0, a1, a2, a3, b0, b1, b2, b3, State::LAYOUT] = *state else {
+        return Err(Refusal::State);
+    };
+    Ok(Watch {
+        a: word_of(a0, a1, a2, a3),
+        b: word_of(b0, b1, b2, b3),
+    })
 }
 
 // Makes the bytes those of a watch that begins at the time. Answers 0, or refuses: STATE.
@@ -61,7 +53,7 @@ pub fn new(state: &mut [u8], time: u32) -> Result<usize, Refusal>
     if state.len() != State::SIZE {
         return Err(Refusal::State);
     }
-    put(state, Watch::new(time));
+    state.copy_from_slice(&state_bytes(Watch::new(time)));
     Ok(0)
 }
 
@@ -69,48 +61,22 @@ pub fn new(state: &mut [u8], time: u32) -> Result<usize, Refusal>
 pub fn heard(state: &mut [u8], bus: u8, time: u32) -> Result<usize, Refusal>
     ensures { states.watch_bytes_after result state.new ≡ states.hearing state.old bus time }
 {
-    if !is_state(state) {
-        return Err(Refusal::State);
-    }
-    let heard = load(state).heard(bus, time);
-    let watch = heard.watch;
-    let answer = heard.answer;
-    if let Err(_) = answer {
-        return answer;
-    }
-    put(state, watch);
-    answer
-}
-
-fn resets(a: bool, b: bool) -> usize
-    ensures { result ≡ states.resets a b }
-{
-    if a {
-        if b {
-            return 3;
-        }
-        return 1;
-    }
-    if b {
-        return 2;
-    }
-    0
+    let heard = load(state)?.heard(bus, time);
+    let bus = heard.answer?;
+    state.copy_from_slice(&state_bytes(heard.watch));
+    Ok(bus)
 }
 
 // Which buses are to be reset at the time: 0 none, 1 A, 2 B, 3 both. Refuses: STATE. With none nothing is stored.
 pub fn check(state: &mut [u8], time: u32) -> Result<usize, Refusal>
     ensures { states.watch_bytes_after result state.new ≡ states.checking state.old time }
 {
-    if !is_state(state) {
-        return Err(Refusal::State);
+    let checked = load(state)?.check(time);
+    let resets = checked.resets();
+    if resets != 0 {
+        state.copy_from_slice(&state_bytes(checked.watch));
     }
-    let checked = load(state).check(time);
-    let watch = checked.watch;
-    let reset = resets(checked.a, checked.b);
-    if reset != 0 {
-        put(state, watch);
-    }
-    Ok(reset)
+    Ok(resets)
 }
 
 // The claims of this crate. It does nothing: its contract ties each claim to its proof.

@@ -1,42 +1,37 @@
 -- Bytes that are no watch's, a refusal, whose watch is in the bytes already, and a bus heard.
 use Rattle.std.proofs.Common.{◌≡◌, sym, ap, ◌∙◌, rules}
+use Rattle.std.proofs.lemmas.Result.{err_from_is_err_and}
 use Rattle.frame.specs.Claims.{Bytes}
 use Rattle.watch.specs.Watching as watching
-use Rattle.watch_bytes.specs.States.{watch_bytes_after, watch_in, heard_in_bytes, hearing}
+use Rattle.watch_bytes.specs.States.{watch_bytes_after, state_bytes, heard_in_bytes, hearing}
 use Rattle.watch_bytes.proofs.Claims.{there}
 use Rattle.watch_bytes.proofs.Laws.{sized, no-watch, a-watch}
 use Rattle.watch_bytes.proofs.heard.Goals as goal
-use Rattle.watch_bytes.proofs.heard.Goals.{After-heard-heard}
 
--- what the watch's own call gives
-told : (c : After-heard-heard)
-    → let g = c.args in
-    watching.watch_after c.heard-heard.result ≡ watching.hearing (watch_in g.state.now) g.bus g.time
-told c =
-    let g = c.args in
-    c.heard-heard.ensures ∙ ap (λ w. watching.hearing w g.bus g.time) c.load.ensures
-
-pub returns-then-not-is_state : goal.returns-then-not-is_state
+pub returns-in_err-load : goal.returns-in_err-load
 unfolding hearing
-returns-then-not-is_state c = no-watch c.args.state.now _ (sym c.if-not-is_state.ensures)
+returns-in_err-load c =
+    let p = err_from_is_err_and c.from_residual.result c.from_residual.ensures.1 in
+    rw (p.1, p.2, c.in_err-load.ensures.1) (no-watch c.args.state.now _ c.in_err-load.ensures.0)
 
-pub load-requires : goal.load-requires
-load-requires c = sized _ (sym c.if-not-is_state.ensures)
-
-pub returns-in-Err : goal.returns-in-Err
+pub returns-in_err-bus : goal.returns-in_err-bus
 unfolding hearing
-returns-in-Err c =
+returns-in_err-bus c =
     let g = c.args in
-    let t = told (goal.at.returns-in-Err c).After-heard-heard in
+    let p = err_from_is_err_and c.from_residual-in_err-bus.result c.from_residual-in_err-bus.ensures.1 in
     let bytes : Bytes g.state.now = λ i. search rules in
-    let same = there g.state.now bytes (sym c.if-not-is_state.ensures) g.bus g.time c.heard-heard.result _ t c.in-Err.is in
-    ap (watch_bytes_after c.heard-heard.result.answer) (sym same) ∙ ap heard_in_bytes t ∙ a-watch g.state.now _ (sym c.if-not-is_state.ensures)
+    let is = c.in_ok-load.ensures.0 in
+    let t = c.heard-heard.ensures ∙ ap (λ w. watching.hearing w g.bus g.time) c.in_ok-load.ensures.1 in
+    let same = there g.state.now bytes is g.bus g.time c.heard-heard.result _ t c.in_err-bus.was in
+    rw (p.1, p.2) (ap (λ r. watch_bytes_after r g.state.now) (sym c.in_err-bus.was) ∙ ap (watch_bytes_after c.heard-heard.result.answer) (sym same) ∙ ap heard_in_bytes t ∙ a-watch g.state.now _ is)
 
-pub put-requires : goal.put-requires
-put-requires c = sized _ (sym c.if-not-is_state.ensures)
+pub copy_from_slice-requires : goal.copy_from_slice-requires
+copy_from_slice-requires c = sized _ c.in_ok-load.ensures.0 ∙ sym c.state_bytes.ensures.nine
 
 pub returns : goal.returns
 unfolding hearing
 returns c =
-    rw c.put.ensures
-    (ap heard_in_bytes (told (goal.at.returns c).After-heard-heard) ∙ a-watch c.args.state.now _ (sym c.if-not-is_state.ensures))
+    let g = c.args in
+    let t = c.heard-heard.ensures ∙ ap (λ w. watching.hearing w g.bus g.time) c.in_ok-load.ensures.1 in
+    rw (c.copy_from_slice.ensures.after, c.state_bytes.ensures.value)
+    (ap (λ r. watch_bytes_after r (state_bytes c.heard-heard.result.watch)) (sym c.in_ok-bus.was) ∙ ap heard_in_bytes t ∙ a-watch g.state.now _ c.in_ok-load.ensures.0)
