@@ -8,7 +8,7 @@ use borrow.Author.Tests.{eq-eqb, eqb-true, eqb-false, leb-true}
 use lib.Dec.{eqb, leb}
 use lib.ListN.{length, take, drop, get_or, length-append, take-append-drop, drop_of_length-le}
 use lib.Seq.{take_at, drop-cons, get_or-append-add, length-take-le}
-use Rattle.format.specs.Refusals.{Result, value, refused, number}
+use Rattle.format.specs.Refusals.{Result, Returned, value, refused, number}
 use Rattle.format.specs.Tests.{all_true}
 use Rattle.format.proofs.Tests.{each, from_each}
 use Rattle.master.specs.declared.Kind.{Kind}
@@ -16,19 +16,20 @@ use Rattle.master.specs.declared.Kind.TheVariants.{Poll, DataBlock, Command}
 use Rattle.master.specs.declared.Exchange.{Exchange}
 use Rattle.std.specs.Prelude.{Option}
 use Rattle.master.specs.declared.Exchange.{Exchange}
-use Rattle.std.specs.Prelude.{None, Some}
+use Rattle.std.specs.Prelude.{None, Some, Ok, Err, MatchResult}
+use Rattle.format.specs.declared.Refusal.{Refusal}
+use Rattle.master.specs.declared.Answer.{Answer}
 use Rattle.master.specs.declared.Master.{Master}
 use Rattle.master.specs.declared.Moved.{Moved}
-use Rattle.master.specs.Masters.{new_master}
+use Rattle.master.specs.Masters.{new_master, kind_number}
 use Rattle.master.specs.Exchanges as exchanges
 use Rattle.master.specs.Runs.{Call, start, reply, timeout, call}
 use Rattle.master.specs.Claims as masters
 use Rattle.master.proofs.Claims.{refused_keeps as master-keeps}
-use Rattle.master_bytes.specs.States.{kind_number, activity_bytes, last_bytes, layout_number, state_bytes, kind_of, activity_of, master_in, activity_written, is_state}
-use Rattle.master_bytes.specs.Calls.{MasterBytesAfter, moved_in_bytes, not_state, on_state, kind_handed_in, starting_as, renew, starting, replying, timing_out}
-use Rattle.master_bytes.specs.Parts.{RefusedIsThere}
+use Rattle.master_bytes.specs.States.{activity_bytes, last_bytes, layout_number, state_bytes, kind_of, activity_of, master_in, activity_written, is_state, loaded}
+use Rattle.master_bytes.specs.Calls.{MasterBytesAfter, master_bytes_after, moved_in_bytes, not_state, on_state, kind_handed_in, starting_as, renew, starting, replying, timing_out}
 use Rattle.master_bytes.specs.Claims.{ReadBack, WrittenIsState, WrittenBack, NoMasters, RefusedKeeps}
-use Rattle.master_bytes.proofs.Laws.{four, sized, no-master}
+use Rattle.master_bytes.proofs.Laws.{four, sized, no-master, a-master, is_loaded}
 
 -- ---- the last bytes: the three of an exchange, and the layout's number
 
@@ -173,10 +174,27 @@ refused_keeps state n = (
 )
 
 -- so it does not have to be stored
-pub there : (state : List ℕ) → is_state state ≡ true → (moved : Moved) (c : Call) → exchanges.master_after moved ≡ call (master_in state) c
-    → RefusedIsThere state moved
-unfolding RefusedIsThere WrittenBack masters.RefusedKeeps
+there : (state : List ℕ) → is_state state ≡ true → (moved : Moved) (c : Call) → exchanges.master_after moved ≡ call (master_in state) c
+    → (name : Refusal) → moved.answer ≡ Err name → state_bytes moved.master ≡ state
+unfolding WrittenBack masters.RefusedKeeps
 there state s moved c e name r =
     let said = ap (λ (h : exchanges.MasterAfter). h.answer) (sym e) ∙ ap exchanges.meaning r in
     let kept = master-keeps (master_in state) c (number name) said in
     ap (λ (h : exchanges.MasterAfter). state_bytes h.master) e ∙ ap state_bytes kept ∙ written_back state s
+
+-- what a call gives on the master in the bytes, with that answer and those bytes handed back
+module _ (state : List ℕ) (master : Master) (c : Call) (moved : Moved) (answer : Returned Answer) (after : List ℕ) where
+  pub handed : Ok master ≡ loaded state → exchanges.master_after moved ≡ call master c → answer ≡ moved.answer
+      → MatchResult answer (λ _. after ≡ state_bytes moved.master) (λ _. after ≡ state)
+      → master_bytes_after answer after ≡ on_state state (call (master_in state) c)
+  handed l e a h =
+      let is = is_loaded state master l in
+      let of-state : exchanges.master_after moved ≡ call (master_in state) c = e ∙ ap (λ (m : Master). call m c) is.1 in
+      let stored = written is.0 of-state answer a h in
+      rw (a, stored) (ap moved_in_bytes of-state) ∙ a-master state _ is.0
+    where
+      written : is_state state ≡ true → exchanges.master_after moved ≡ call (master_in state) c → (answer : Returned Answer)
+          → answer ≡ moved.answer → MatchResult answer (λ _. after ≡ state_bytes moved.master) (λ _. after ≡ state)
+          → after ≡ state_bytes moved.master
+      written s e (Ok given) a h = h
+      written s e (Err name) a h = h ∙ sym (there state s moved c e name (sym a))

@@ -9,11 +9,12 @@ use Rattle.format.specs.Refusals.{guarded}
 use Rattle.format.proofs.Tests.{each}
 use Rattle.std.specs.Prelude.{Option}
 use Rattle.master.specs.declared.Exchange.{Exchange}
-use Rattle.std.specs.Prelude.{None, Some}
+use Rattle.std.specs.Prelude.{None, Some, Ok, Err}
+use Rattle.format.specs.declared.Refusal.TheVariants.{State}
 use Rattle.master.specs.declared.Master.{Master}
 use Rattle.master.specs.Masters.{sound}
 use Rattle.master.specs.Exchanges as exchanges
-use Rattle.master_bytes.specs.States.{last_bytes, kind_of, is_state}
+use Rattle.master_bytes.specs.States.{last_bytes, kind_of, master_in, is_state, loaded}
 use Rattle.master_bytes.specs.Calls.{moved_in_bytes, not_state, on_state, is_kind, kind_handed_in, starting_as}
 
 pub four : (activity : Option Exchange) → length (last_bytes activity) ≡ 4
@@ -32,11 +33,23 @@ module _ (state : List ℕ) where
     pub a-master : is_state state ≡ true → moved_in_bytes given ≡ on_state state given
     a-master s = rw s
 
+-- bytes from which a master is read
+pub is_loaded : (state : List ℕ) (master : Master) → Ok master ≡ loaded state → (is_state state ≡ true) × (master ≡ master_in state)
+is_loaded state master = go (is_state state) refl
+  where
+    go : (b : Bool) → is_state state ≡ b → Ok master ≡ cond b (Ok (master_in state)) (Err State)
+        → (is_state state ≡ true) × (master ≡ master_in state)
+    go true s e = (s, (cc))
+    go false s e = cc
+
+pub loaded_sized : (state : List ℕ) (master : Master) → Ok master ≡ loaded state → length state ≡ 68
+loaded_sized state master e = sized state (is_loaded state master e).0
+
 -- node 64 is refused where the kind is to be: after STATE, before BUSY
-pub asked : (master : Master) (kind node : ℕ)
+pub asked_for : (master : Master) (kind node : ℕ)
     → exchanges.starting master (kind_of kind) (cond (is_kind kind) node 64) ≡ starting_as master node (kind_handed_in master kind)
 unfolding exchanges.starting guarded
-asked master kind node = go (sound master) (is_kind kind) refl refl
+asked_for master kind node = go (sound master) (is_kind kind) refl refl
   where
     go : (s k : Bool) → sound master ≡ s → is_kind kind ≡ k
         → exchanges.starting master (kind_of kind) (cond (is_kind kind) node 64) ≡ starting_as master node (kind_handed_in master kind)

@@ -18,7 +18,7 @@ use Rattle.master_bytes.specs.States.{state_bytes, master_in}
 use Rattle.master_bytes.specs.Calls.{MasterBytesAfter, moved_in_bytes, on_state, starting, replying, timing_out}
 use Rattle.master_bytes.specs.Runs.{BytesCall, start, reply, timeout, call_in, call_of, Chained, answers_given, last_of}
 use Rattle.master_bytes.specs.Claims.{ReadBack, WrittenIsState, AsRun, LateReplyOnBytes}
-use Rattle.master_bytes.proofs.Laws.{a-master, asked}
+use Rattle.master_bytes.proofs.Laws.{a-master, asked_for}
 use Rattle.master_bytes.proofs.Claims.{read_back, written_is_state}
 
 -- ---- one call
@@ -40,7 +40,7 @@ module _ (master : Master) (s : sound master ≡ true) where
   unfolding starting replying timing_out
   as_first (start kind node) =
       is _
-      ∙ ap moved_in_bytes (sym (asked (master_in (state_bytes master)) kind node) ∙ ap (λ (m : Master). call m (call_of (start kind node))) back)
+      ∙ ap moved_in_bytes (sym (asked_for (master_in (state_bytes master)) kind node) ∙ ap (λ (m : Master). call m (call_of (start kind node))) back)
   as_first (reply bus node function) = is _ ∙ ap (λ (m : Master). moved_in_bytes (call m (call_of (reply bus node function)))) back
   as_first timeout = is _ ∙ ap (λ (m : Master). moved_in_bytes (call m (call_of timeout))) back
 

@@ -1,6 +1,5 @@
 pub mod States
 pub mod Calls
-pub mod Parts
 pub mod Runs
 pub mod Claims
 pub mod Examples

@@ -9,15 +9,13 @@ use Rattle.master.specs.declared.Kind.{Kind}
 use Rattle.master.specs.declared.Kind.TheVariants.{Poll, DataBlock, Command}
 use Rattle.std.specs.Prelude.{Option}
 use Rattle.master.specs.declared.Exchange.{Exchange}
-use Rattle.std.specs.Prelude.{None, Some}
+use Rattle.std.specs.Prelude.{None, Some, Ok, Err}
 use Rattle.master.specs.declared.Master.{Master}
+use Rattle.master.specs.Masters.{kind_number}
+use Rattle.format.specs.declared.Refusal.TheVariants.{State}
+use Rattle.format.specs.Refusals.{Returned}
 
 -- ---- the bytes of a master
-
-abbrev pub kind_number : Kind → ℕ
-kind_number Poll = 1
-kind_number DataBlock = 2
-kind_number Command = 3
 
 abbrev pub activity_bytes : Option Exchange → List ℕ
 activity_bytes None = 0 ∷ 0 ∷ 0 ∷ []
@@ -58,3 +56,7 @@ is_state state =
     ∷ eqb (get_or state 67 0) layout_number
     ∷ activity_written (get_or state 64 0) (get_or state 65 0) (get_or state 66 0)
     ∷ [])
+
+-- STATE: bytes that no master writes
+abbrev pub loaded : List ℕ → Returned Master
+loaded state = cond (is_state state) (Ok (master_in state)) (Err State)

@@ -2,15 +2,12 @@
 // under way (0 none, 1 poll, 2 data block, 3 command), its node and its send count, and the layout's number.
 #![tactic(auto)]
 
-ghost use Rattle.std.specs.Prelude.{◌≡◌, cond, length, take};
-ghost use Rattle.master.specs.Exchanges as exchanges;
-ghost use Rattle.master_bytes.specs.States.{kind_number, last_bytes, state_bytes, kind_of, activity_of, master_in, activity_written, is_state};
+ghost use Rattle.std.specs.Prelude.{◌≡◌, cond, length, MatchResult};
+ghost use Rattle.master_bytes.specs.States.{last_bytes, state_bytes, kind_of, loaded};
 ghost use Rattle.master_bytes.specs.Calls as calls;
-ghost use Rattle.master_bytes.specs.Parts.{RefusedIsThere};
 ghost use Rattle.master_bytes.specs.Claims as claims;
 ghost use Rattle.master_bytes.specs.Examples.{Examples};
 
-use copying::copy_in;
 use format::Refusal;
 use master::{Answer, Exchange, Kind, Master, Moved};
 
@@ -24,60 +21,24 @@ impl State {
     pub const LAYOUT: u8 = 1;
 }
 
-fn chosen_in(state: &[u8]) -> [u8; 64]
-    requires { length state.now ≡ 68 }
-    ensures { result ≡ take 64 state.now }
+// The master that the bytes are, or STATE: bytes that no master writes.
+#[tactic(auto, unfolding(crate::specs::States::is_state, crate::specs::States::activity_written, crate::specs::States::master_in, format::specs::Tests::all_true))]
+fn load(state: &[u8]) -> Result<Master, Refusal>
+    ensures { result ≡ loaded state.now }
 {
-    let mut chosen = [0u8; 64];
-    copy_in(&mut chosen, 0, &state[..64]);
-    chosen
-}
-
-fn kind_of(number: u8) -> Kind
-    ensures { result ≡ kind_of number }
-{
-    if number == 1 {
-        return Kind::Poll;
-    }
-    if number == 2 {
-        return Kind::DataBlock;
-    }
-    Kind::Command
-}
-
-fn activity_of(kind: u8, node: u8, sends: u8) -> Option<Exchange>
-    ensures { result ≡ activity_of kind node sends }
-{
-    if kind == 0 {
-        return None;
-    }
-    let exchange = Exchange {
-        kind: kind_of(kind),
-        node: node,
-        sends: sends,
+    let Some((&chosen, &[kind, node, sends, State::LAYOUT])) = state.split_first_chunk::<64>() else {
+        return Err(Refusal::State);
     };
-    Some(exchange)
-}
-
-// Whether a master writes these three bytes.
-#[tactic(auto, unfolding(crate::specs::States::activity_written, format::specs::Tests::all_true))]
-fn activity_written(kind: u8, node: u8, sends: u8) -> bool
-    ensures { result ≡ activity_written kind node sends }
-{
-    if kind == 0 {
-        return (node == 0) & (sends == 0);
-    }
-    kind <= 3
-}
-
-fn kind_number(kind: Kind) -> u8
-    ensures { result ≡ kind_number kind }
-{
-    match kind {
-        Kind::Poll => 1,
-        Kind::DataBlock => 2,
-        Kind::Command => 3,
-    }
+    let activity = match [kind, node, sends] {
+        [0, 0, 0] => None,
+        [0, _, _] => return Err(Refusal::State),
+        _ => Some(Exchange {
+            kind: Kind::try_from(kind).or(Err(Refusal::State))?,
+            node,
+            sends,
+        }),
+    };
+    Ok(Master { chosen, activity })
 }
 
 // The bytes behind those of the buses: the exchange's, and the layout's number.
@@ -86,70 +47,30 @@ fn last_bytes(activity: Option<Exchange>) -> [u8; 4]
 {
     match activity {
         None => [0, 0, 0, State::LAYOUT],
-        Some(exchange) => {
-            let kind = exchange.kind;
-            [
-                kind_number(kind),
-                exchange.node,
-                exchange.sends,
-                State::LAYOUT,
-            ]
-        }
+        Some(Exchange { kind, node, sends }) => [kind.into(), node, sends, State::LAYOUT],
     }
 }
 
+#[tactic(auto, unfolding(crate::specs::States::state_bytes))]
 fn put(state: &mut [u8], master: Master)
     requires { length state.old ≡ 68 }
     ensures { state.new ≡ state_bytes master }
 {
-    let chosen = master.chosen;
-    let activity = master.activity;
-    copy_in(state, 0, &chosen);
-    let bytes = last_bytes(activity);
-    copy_in(state, 64, &bytes);
-}
-
-#[tactic(auto, unfolding(crate::specs::States::is_state, format::specs::Tests::all_true))]
-fn is_state(state: &[u8]) -> bool
-    ensures { result ≡ is_state state.now }
-{
-    if state.len() != State::SIZE {
-        return false;
-    }
-    if state[67] != State::LAYOUT {
-        return false;
-    }
-    activity_written(state[64], state[65], state[66])
-}
-
-#[tactic(auto, unfolding(crate::specs::States::master_in))]
-fn load(state: &[u8]) -> Master
-    requires { length state.now ≡ 68 }
-    ensures { result ≡ master_in state.now }
-{
-    let chosen = chosen_in(state);
-    let activity = activity_of(state[64], state[65], state[66]);
-    Master {
-        chosen: chosen,
-        activity: activity,
-    }
+    let (buses, last) = state.split_at_mut(64);
+    buses.copy_from_slice(&master.chosen);
+    last.copy_from_slice(&last_bytes(master.activity));
 }
 
 // Answers as a call does, and writes the master that it hands back; of a refusal, whose master is in the bytes
 // already, nothing is stored.
-#[tactic(auto, unfolding(crate::specs::Parts::RefusedIsThere))]
 fn hand_back(state: &mut [u8], moved: Moved) -> Result<Answer, Refusal>
-    requires state_len { length state.old ≡ 68 }
-    requires refused_is_there { RefusedIsThere state.old moved }
-    ensures { calls.master_bytes_after result state.new ≡ calls.moved_in_bytes (exchanges.master_after moved) }
+    requires { length state.old ≡ 68 }
+    ensures value { result ≡ moved.answer }
+    ensures state_after { MatchResult result (λ _. state.new ≡ state_bytes moved.master) (λ _. state.new ≡ state.old) }
 {
-    let answer = moved.answer;
-    let master = moved.master;
-    if let Err(_) = answer {
-        return answer;
-    }
-    put(state, master);
-    answer
+    let answer = moved.answer?;
+    put(state, moved.master);
+    Ok(answer)
 }
 
 // Makes the bytes a new master's: bus A chosen for every node, no exchange. Answers 0, or refuses: STATE.
@@ -164,48 +85,42 @@ pub fn new(state: &mut [u8]) -> Result<usize, Refusal>
     Ok(0)
 }
 
-// The node to ask for. For a kind that is none it is no node either, and so refused: after STATE, before BUSY.
+// The kind and the node to ask for. A number that is no kind's is asked for as a node that is none, and so is
+// refused: after STATE, before BUSY.
 #[tactic(auto, unfolding(format::specs::Tests::all_true))]
-fn node_for(kind: u8, node: u8) -> u8
-    ensures { result ≡ cond (calls.is_kind kind) node 64 }
+fn asked(kind: u8, node: u8) -> (Kind, u8)
+    ensures kind { result.0 ≡ kind_of kind }
+    ensures node { result.1 ≡ cond (calls.is_kind kind) node 64 }
 {
-    if (1 <= kind) & (kind <= 3) {
-        return node;
-    }
-    64
+    Kind::try_from(kind).map_or((Kind::Command, 64), |kind| (kind, node))
 }
 
 // Starts an exchange of a kind, 1 to 3, with a node, or refuses: STATE, FIELD, BUSY.
+#[tactic(auto, unfolding(crate::specs::Calls::starting))]
 pub fn start(state: &mut [u8], kind: u8, node: u8) -> Result<Answer, Refusal>
     ensures { calls.master_bytes_after result state.new ≡ calls.starting state.old kind node }
 {
-    if !is_state(state) {
-        return Err(Refusal::State);
-    }
-    let moved = load(state).start(kind_of(kind), node_for(kind, node));
-    hand_back(state, moved)
+    let master = load(state)?;
+    let (kind, node) = asked(kind, node);
+    hand_back(state, master.start(kind, node))
 }
 
 // A reply has come in: done if it is the one awaited, else refused: STATE, FIELD, IDLE, NOTAWAITED.
+#[tactic(auto, unfolding(crate::specs::Calls::replying))]
 pub fn reply(state: &mut [u8], bus: u8, node: u8, function: u8) -> Result<Answer, Refusal>
     ensures { calls.master_bytes_after result state.new ≡ calls.replying state.old bus node function }
 {
-    if !is_state(state) {
-        return Err(Refusal::State);
-    }
-    let moved = load(state).reply(bus, node, function);
-    hand_back(state, moved)
+    let master = load(state)?;
+    hand_back(state, master.reply(bus, node, function))
 }
 
 // No reply came in time: answers the bus to send on again, or gave up, or refuses: STATE, IDLE.
+#[tactic(auto, unfolding(crate::specs::Calls::timing_out))]
 pub fn timeout(state: &mut [u8]) -> Result<Answer, Refusal>
     ensures { calls.master_bytes_after result state.new ≡ calls.timing_out state.old }
 {
-    if !is_state(state) {
-        return Err(Refusal::State);
-    }
-    let moved = load(state).timeout();
-    hand_back(state, moved)
+    let master = load(state)?;
+    hand_back(state, master.timeout())
 }
 
 // The claims of this crate. It does nothing: its contract ties each claim to its proof.
