@@ -18,13 +18,12 @@ use Rattle.master.specs.declared.Kind.TheVariants.{Poll, DataBlock, Command}
 use Rattle.master.specs.declared.Exchange.{Exchange}
 use Rattle.std.specs.Prelude.{Option}
 use Rattle.master.specs.declared.Exchange.{Exchange}
-use Rattle.std.specs.Prelude.{None, Some, Ok, Err}
-use Rattle.format.specs.declared.Refusal.TheVariants.{Field}
+use Rattle.std.specs.Prelude.{None, Some}
 use Rattle.master.specs.declared.Master.{Master}
-use Rattle.master.specs.Masters.{kind_number, plan_of, chosen_bus, other, switched, buses_in_range, chosen_sound, exchange_sound, sound}
+use Rattle.master.specs.Masters.{plan_of, chosen_bus, other, switched, buses_in_range, chosen_sound, exchange_sound, sound}
 use Rattle.master.specs.Exchanges.{Told, send, done, gave_up, Step, MasterAfter, given, handed_back, under_way, sent, exchange_ended, starting, counts, replying, chosen_after, again, expired, timing_out}
 use Rattle.master.specs.Runs.{Call, start, reply, timeout, call, answers, run, sent_on, latest, unless_refused, not_refused, without_refusals}
-use Rattle.master.specs.Claims.{Kinds, NewIsSound, StaysSound, RefusedKeeps, RefusedPlayNoPart, Unanswered, LatestSend, LateReply}
+use Rattle.master.specs.Claims.{NewIsSound, StaysSound, RefusedKeeps, RefusedPlayNoPart, Unanswered, LatestSend, LateReply}
 use Rattle.master.proofs.Buses.{set_sound}
 use Rattle.master.proofs.Moves.{refuses, start-sends, timeout_expires}
 
@@ -35,23 +34,6 @@ module _ (master : Master) (P : MasterAfter → Type 0) (step : Step) (refusing 
   either [] giving = giving tt
   either (check name true ∷ checks) giving = either checks (λ p. giving (refl, p))
   either (check name false ∷ checks) giving = refusing (number name)
-
--- ---- kinds and their numbers
-
-pub kinds : Kinds
-unfolding Kinds
-kinds = (
-  elim [ Poll ↦ refl | DataBlock ↦ refl | Command ↦ refl ],
-  λ n kind e. go n (eqb n 1) (eqb n 2) (eqb n 3) refl refl refl kind e,
-)
-  where
-    go : (n : ℕ) (a b c : Bool) → eqb n 1 ≡ a → eqb n 2 ≡ b → eqb n 3 ≡ c → (kind : Kind)
-        → cond a (Ok Poll) (cond b (Ok DataBlock) (cond c (Ok Command) (Err Field))) ≡ Ok kind
-        → n ≡ kind_number kind
-    go n true b c e f g kind h = let i : Poll ≡ kind = cc in eqb-true n 1 e ∙ ap kind_number i
-    go n false true c e f g kind h = let i : DataBlock ≡ kind = cc in eqb-true n 2 f ∙ ap kind_number i
-    go n false false true e f g kind h = let i : Command ≡ kind = cc in eqb-true n 3 g ∙ ap kind_number i
-    go n false false false e f g kind h = cc
 
 -- ---- soundness
 

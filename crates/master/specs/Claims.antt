@@ -5,19 +5,13 @@ use Rattle.format.specs.Refusals.{value, refused}
 use Rattle.master.specs.declared.Kind.{Kind}
 use Rattle.master.specs.declared.Kind.TheVariants.{Poll, DataBlock, Command}
 use Rattle.master.specs.declared.Exchange.{Exchange}
-use Rattle.std.specs.Prelude.{None, Some, Ok}
+use Rattle.std.specs.Prelude.{None, Some}
 use Rattle.master.specs.declared.Master.{Master}
 use Rattle.format.specs.Refusals.{Returned}
 use Rattle.master.specs.declared.Answer.{Answer}
-use Rattle.master.specs.Masters.{new_master, kind_number, kind_numbered, plan_of, function_sent, chosen_bus, other, switched, sound}
+use Rattle.master.specs.Masters.{new_master, plan_of, function_sent, chosen_bus, other, switched, sound}
 use Rattle.master.specs.Exchanges.{send, done, gave_up, starting, replying, timing_out, meaning}
 use Rattle.master.specs.Runs.{Call, start, timeout, call, answers, run, latest, not_refused, without_refusals}
-
--- a kind's number is read as that kind, and no other number is
-unfoldable pub Kinds : Type 0
-Kinds =
-    ((kind : Kind) → kind_numbered (kind_number kind) ≡ Ok kind)
-    × ((number : ℕ) (kind : Kind) → kind_numbered number ≡ Ok kind → number ≡ kind_number kind)
 
 unfoldable pub NewIsSound : Type 0
 NewIsSound = sound new_master ≡ true

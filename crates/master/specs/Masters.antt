@@ -2,9 +2,7 @@
 -- at most one exchange (extended only; none when new). [..] Poll: 1 send, awaits function 2. Data block: 2 sends, awaits 4. Command: 2
 -- sends, then a third on the other bus, awaits 4 (source 9.3). [..] A master is sound when its chosen buses are 0 or 1 and an exchange
 -- under way has a node 0 to 63 and a send count from 1 to its kind's total."
-use Rattle.std.specs.Prelude.{ℕ, ◌-◌, Bool, true, cond, List, [], ◌∷◌, leb, eqb, length, get_or, set, replicate, Ok, Err}
-use Rattle.format.specs.declared.Refusal.TheVariants.{Field}
-use Rattle.format.specs.Refusals.{Returned}
+use Rattle.std.specs.Prelude.{ℕ, ◌-◌, Bool, true, List, [], ◌∷◌, leb, eqb, length, get_or, set, replicate}
 use Rattle.format.specs.Tests.{all_true}
 use Rattle.master.specs.declared.Kind.{Kind}
 use Rattle.master.specs.declared.Kind.TheVariants.{Poll, DataBlock, Command}
@@ -17,15 +15,11 @@ use Rattle.master.specs.declared.Master.{Master}
 abbrev pub new_master : Master
 new_master = record { chosen = replicate 64 0; activity = None }
 
--- the kinds' numbers, where one is handed over as a byte
+-- a kind's number, where it is handed over as a byte
 abbrev pub kind_number : Kind → ℕ
 kind_number Poll = 1
 kind_number DataBlock = 2
 kind_number Command = 3
-
--- the kind of a number. FIELD: a number that is no kind's
-abbrev pub kind_numbered : ℕ → Returned Kind
-kind_numbered n = cond (eqb n 1) (Ok Poll) (cond (eqb n 2) (Ok DataBlock) (cond (eqb n 3) (Ok Command) (Err Field)))
 
 -- how an exchange of a kind goes: the sends on the first bus, that chosen at the start; all its sends; the function awaited
 abbrev pub plan_of : Kind → Plan

@@ -3,13 +3,14 @@
 #![tactic(auto)]
 
 ghost use Rattle.std.specs.Prelude.{◌≡◌, ◌≤◌};
-ghost use Rattle.master.specs.Masters.{new_master, kind_number, kind_numbered, plan_of, function_sent, chosen_bus, other, chosen_sound, exchange_sound, sound};
+ghost use Rattle.format.specs.Numbers.{Reads};
+ghost use Rattle.master.specs.Masters.{new_master, kind_number, plan_of, function_sent, chosen_bus, other, chosen_sound, exchange_sound, sound};
 ghost use Rattle.master.specs.Exchanges as exchanges;
 ghost use Rattle.master.specs.Exchanges.{told_of, step_of, step_given};
 ghost use Rattle.master.specs.Claims as claims;
 ghost use Rattle.master.specs.Examples.{Examples};
 
-use format::Refusal;
+use format::{NoSuch, Refusal};
 
 // What is sent to a node. Where a kind is handed over as a byte, it is this number.
 #[derive(Clone, Copy, Debug, PartialEq, Eq)]
@@ -28,17 +29,16 @@ impl From<Kind> for u8 {
 }
 
 impl TryFrom<u8> for Kind {
-    type Error = Refusal;
+    type Error = NoSuch;
 
-    ghost try_from_gives = { λ number kind. kind ≡ kind_numbered number };
+    ghost try_from_gives = { Reads kind_number };
 
-    // FIELD: a number that is no kind's.
-    fn try_from(number: u8) -> Result<Self, Refusal> {
+    fn try_from(number: u8) -> Result<Kind, NoSuch> {
         match number {
             1 => Ok(Kind::Poll),
             2 => Ok(Kind::DataBlock),
             3 => Ok(Kind::Command),
-            _ => Err(Refusal::Field),
+            _ => Err(NoSuch(number)),
         }
     }
 }
@@ -121,7 +121,7 @@ pub enum Answer {
 }
 
 // What a call hands back: the next master, and the answer.
-#[derive(Clone, Copy)]
+#[derive(Clone, Copy, Debug, PartialEq, Eq)]
 pub struct Moved {
     pub master: Master,
     pub answer: Result<Answer, Refusal>,
@@ -330,7 +330,6 @@ impl Master {
 
 // The claims of this crate. It does nothing: its contract ties each claim to its proof.
 pub fn promised()
-    ensures kinds { claims.Kinds }
     ensures new_is_sound { claims.NewIsSound }
     ensures stays_sound { claims.StaysSound }
     ensures refused_keeps { claims.RefusedKeeps }

@@ -1,11 +1,8 @@
-use Rattle.master.proofs.Claims.{kinds, new_is_sound, stays_sound, refused_keeps, refused_play_no_part, unanswered, latest_send, late_reply}
+use Rattle.master.proofs.Claims.{new_is_sound, stays_sound, refused_keeps, refused_play_no_part, unanswered, latest_send, late_reply}
 use Rattle.master.proofs.Replies.{answered, functions, buses_kept}
 use Rattle.master.proofs.Answers.{one_answer}
 use Rattle.master.proofs.Examples.{examples}
 use Rattle.master.proofs.promised.Goals as goal
-
-pub returns-clause-kinds : goal.returns-clause-kinds
-returns-clause-kinds c = kinds
 
 pub returns-clause-new_is_sound : goal.returns-clause-new_is_sound
 returns-clause-new_is_sound c = new_is_sound
