@@ -1,9 +1,18 @@
 -- Calls on lent bytes: those that are no master's, and those that are; and how a start asks for a kind that is none.
 use Prim.Native.Nat.{ℕ}
-use mathlib.Core.Path.{◌≡◌, refl}
+use mathlib.Core.Path.{◌≡◌, refl, ap}
 use mathlib.Core.Bool.{Bool, true, false, cond}
-use mathlib.Core.List.{List}
-use borrow.Author.Tests.{eqb-true}
+use mathlib.Core.List.{List, [], ◌∷◌}
+use borrow.Author.Tests.{eqb-true, leb-true}
+use native.Mathlib.Omega.{arith}
+use lib.Dec.{leb}
+use Rattle.std.specs.declared.result.Result.{Result as CoreResult}
+use Rattle.format.specs.declared.NoSuch.{NoSuch}
+use Rattle.format.specs.Numbers.{Reads}
+use Rattle.format.specs.Tests.{all_true}
+use Rattle.master.specs.declared.Kind.{Kind}
+use Rattle.master.specs.declared.Kind.TheVariants.{Poll, DataBlock, Command}
+use Rattle.master.specs.Masters.{kind_number}
 use lib.ListN.{length}
 use Rattle.format.specs.Refusals.{guarded}
 use Rattle.format.proofs.Tests.{each}
@@ -32,6 +41,19 @@ module _ (state : List ℕ) where
 
     pub a-master : is_state state ≡ true → moved_in_bytes given ≡ on_state state given
     a-master s = rw s
+
+-- a number read as a kind: one of 1 to 3
+pub kind_read : (n : ℕ) (r : CoreResult Kind NoSuch) → Reads kind_number n r → r ≡ cond (is_kind n) (Ok (kind_of n)) (Err (record { 0 = n }))
+unfolding all_true
+kind_read n (Ok Poll) e = rw (← e)
+kind_read n (Ok DataBlock) e = rw (← e)
+kind_read n (Ok Command) e = rw (← e)
+kind_read n (Err e) h = go (leb 1 n) (leb n 3) refl refl
+  where
+    go : (a b : Bool) → leb 1 n ≡ a → leb n 3 ≡ b → Err e ≡ cond (all_true (a ∷ b ∷ [])) (Ok (kind_of n)) (Err (record { 0 = n }))
+    go true true f g = absurd (omega (arith, leb-true 1 n f, leb-true n 3 g, h.1 Poll, h.1 DataBlock, h.1 Command))
+    go true false f g = ap (λ (k : ℕ). Err (record { 0 = k })) h.0
+    go false b f g = ap (λ (k : ℕ). Err (record { 0 = k })) h.0
 
 -- bytes from which a master is read
 pub is_loaded : (state : List ℕ) (master : Master) → Ok master ≡ loaded state → (is_state state ≡ true) × (master ≡ master_in state)

@@ -26,7 +26,8 @@ impl State {
 fn load(state: &[u8]) -> Result<Master, Refusal>
     ensures { result ≡ loaded state.now }
 {
-    let Some((&chosen, &[kind, node, sends, State::LAYOUT])) = state.split_first_chunk::<64>() else {
+    let Some((&chosen, &[kind, node, sends, State::LAYOUT])) = state.split_first_chunk::<64>()
+    else {
         return Err(Refusal::State);
     };
     let activity = match [kind, node, sends] {
