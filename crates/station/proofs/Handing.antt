@@ -1,5 +1,7 @@
 -- What opening, closing and reading are, case by case, for the code's proofs.
 use Prim.Native.Nat.{ℕ, ◌*◌, ◌≤◌, ◌<◌}
+use Rattle.std.specs.Prelude.{Option, None, Some, Ok, Err, IfOk, is_some, position}
+use Rattle.std.specs.Option.{ok_or}
 use mathlib.Core.Path.{◌≡◌, refl, sym, ap, ◌∙◌, subst}
 use mathlib.Core.Logic.{◌≢◌}
 use mathlib.Core.Bool.{Bool, true, false, not}
@@ -7,14 +9,16 @@ use mathlib.Core.List.{List, [], ◌∷◌}
 use native.Mathlib.Omega.{arith}
 use lib.Dec.{ltb}
 use lib.ListN.{length, set, take, drop}
+use Rattle.std.proofs.Math.ListN.{get_or-eq_default}
 use lib.Seq.{length-take-le, take-take}
 use borrow.Author.Tests.{leb-true, eqb-true, ltb-true, ltb-false, eq-eqb, ne_eqb, lt-ltb, le-ltb}
 use Rattle.format.specs.declared.Format.{Format}
 use Rattle.format.specs.declared.Refusal.{Refusal}
 use Rattle.format.specs.declared.Refusal.TheVariants as refusal
 use Rattle.format.specs.Formats.{packet_limit}
-use Rattle.format.specs.Refusals.{Result, value, refused, check, number}
-use Rattle.format.proofs.Tests.{each}
+use Rattle.format.specs.Tests.{all_true, all_after}
+use Rattle.format.specs.Refusals.{Returned, meaning, Result, value, refused, check, number}
+use Rattle.format.proofs.Tests.{each, from_each}
 use Rattle.format.proofs.Checks.{stop, pass, none_left, passed}
 use Rattle.format.proofs.Limits.{most_bytes}
 use Rattle.stream.specs.declared.Progress.{Progress}
@@ -22,29 +26,27 @@ use Rattle.stream.specs.declared.Progress.TheVariants.{Idle, Collecting, Done}
 use Rattle.stream.specs.Step.{held}
 use Rattle.slot.specs.declared.Key.{Key}
 use Rattle.slot.specs.declared.Slot.{Slot}
-use Rattle.std.specs.Prelude.{Option}
 use Rattle.slot.specs.declared.Stream.{Stream}
-use Rattle.std.specs.Prelude.{None, Some}
-use Rattle.slot.specs.Slots.{closed_slot, open_slot, slot_at, is_closed, has_key, place}
+use Rattle.slot.specs.Slots.{closed_slot, slot_at, is_closed, has_key, place}
 use Rattle.slot.specs.Sound.{key_in_range, fits, slot_sound, any, sound, sought}
-use Rattle.slot.proofs.Places.{any_place}
+use Rattle.slot.proofs.Places.{any_place, position_some, position_none}
 use Rattle.station.specs.declared.Station.{Station}
-use Rattle.station.specs.Stations.{sound_station, with_slots, area, full_size}
+use Rattle.station.specs.Stations.{sound_station, area, full_size}
 use Rattle.station.specs.Receive.{progress_in, progress_of}
-use Rattle.station.specs.Open.{StationAfter, changed_at, opening, is_open, closing}
+use Rattle.station.specs.Open.{vacancy, is_open, occupied}
 use Rattle.station.specs.Read.{is_done, reading, length_of, part_of}
 use Rattle.station.proofs.Areas.{area_length}
-use Rattle.station.proofs.Turning.{sought_refused}
+use Rattle.slot.proofs.CodeLaws.{sought_refused}
 use Rattle.station.proofs.Slots.{sound_at}
-
-abbrev refuses : Station → ℕ → StationAfter
-refuses station n = record { answer = refused n; station = station }
 
 -- whether a test holds of some slot, by its place
 module _ (format : Format) (slots : List Slot) (test : Slot → Bool) (s : sound format slots ≡ true) where
-  sixteenth : any test slots ≡ ltb (place test slots) 16
+  pub sixteen : length slots ≡ 16
   unfolding sound
-  sixteenth = any_place test slots ∙ ap (ltb (place test slots)) (eqb-true _ _ (each _ s).0)
+  sixteen = eqb-true _ _ (each _ s).0
+
+  sixteenth : any test slots ≡ ltb (place test slots) 16
+  sixteenth = any_place test slots ∙ ap (ltb (place test slots)) sixteen
 
   pub holds : place test slots < 16 → any test slots ≡ true
   holds h = sixteenth ∙ lt-ltb _ 16 h
@@ -58,63 +60,99 @@ module _ (format : Format) (slots : List Slot) (test : Slot → Bool) (s : sound
   pub past_sixteen : any test slots ≡ false → 16 ≤ place test slots
   past_sixteen e = ltb-false _ _ (sym sixteenth ∙ e)
 
--- ---- opening
+  -- and by what the search for it found
+  pub somewhere : (o : Option ℕ) → o ≡ position test slots → is_some o ≡ true → place test slots < 16
+  somewhere None p e = let z : ◌≡◌ {A = ℕ} 0 1 = cc in absurd (omega arith)
+  somewhere (Some i) p e = let at = position_some test slots i p in omega (arith, at.0, at.1, sixteen)
+
+  pub nowhere : (o : Option ℕ) → o ≡ position test slots → is_some o ≡ false → 16 ≤ place test slots
+  nowhere None p e = omega (arith, position_none test slots p, sixteen)
+  nowhere (Some i) p e = let z : ◌≡◌ {A = ℕ} 0 1 = cc in absurd (omega arith)
+
+-- ---- opening: the slot that opens
 
 module _ (station : Station) (key : Key) where
-  pub open_state : (name : Refusal) → refused (number name) ≡ sought station.format station.slots key → refuses station (number name) ≡ opening station key
-  unfolding opening
+  pub open_state : (name : Refusal) → Err name ≡ sought station.format station.slots key → refused (number name) ≡ vacancy station key
   open_state name e =
-      let u = sought_refused station.format station.slots key (number name) (sym e) in
-      ap (changed_at station (open_slot key Idle)) (ap refused u.1 ∙ stop refusal.State _ _ u.0)
+      let u = sought_refused station.format station.slots key name e in ap (λ (n : Refusal). refused (number n)) u.1 ∙ stop refusal.State _ _ u.0
 
   module _ (s : sound_station station ≡ true) where
-    pub open-field : key_in_range station.format key ≡ false → refuses station (number refusal.Field) ≡ opening station key
-    unfolding opening
-    open-field r = ap (changed_at station (open_slot key Idle)) (pass refusal.State _ _ s (stop refusal.Field _ _ r))
+    pub open-field : key_in_range station.format key ≡ false → refused (number refusal.Field) ≡ vacancy station key
+    open-field r = pass refusal.State _ _ s (stop refusal.Field _ _ r)
 
     module _ (r : key_in_range station.format key ≡ true) where
-      pub open-taken : place (has_key key) station.slots < 16 → refuses station (number refusal.Taken) ≡ opening station key
-      unfolding opening
-      open-taken t = ap (changed_at station (open_slot key Idle)) (pass refusal.State _ _ s (pass refusal.Field _ _ r (stop refusal.Taken _ _ (ap not (holds station.format station.slots (has_key key) s t)))))
+      pub open-taken : place (has_key key) station.slots < 16 → refused (number refusal.Taken) ≡ vacancy station key
+      open-taken t = pass refusal.State _ _ s (pass refusal.Field _ _ r (stop refusal.Taken _ _ (ap not (holds station.format station.slots (has_key key) s t))))
 
       module _ (f : 16 ≤ place (has_key key) station.slots) where
         free : not (any (has_key key) station.slots) ≡ true
         free = ap not (holds_nowhere station.format station.slots (has_key key) s f)
 
-        pub open_full : 16 ≤ place is_closed station.slots → refuses station (number refusal.Full) ≡ opening station key
-        unfolding opening
+        pub open_full : 16 ≤ place is_closed station.slots → refused (number refusal.Full) ≡ vacancy station key
         open_full n =
-            ap (changed_at station (open_slot key Idle))
-            (pass refusal.State _ _ s (pass refusal.Field _ _ r (pass refusal.Taken _ _ free (stop refusal.Full _ _ (holds_nowhere station.format station.slots is_closed s n)))))
+            pass refusal.State _ _ s (pass refusal.Field _ _ r (pass refusal.Taken _ _ free (stop refusal.Full _ _ (holds_nowhere station.format station.slots is_closed s n))))
 
-        pub open-lowest : (i : ℕ) → i ≡ place is_closed station.slots → i < 16
-            → ◌≡◌ {A = StationAfter} (record { answer = value i; station = with_slots station (set station.slots i (open_slot key Idle)) }) (opening station key)
-        unfolding opening
+        pub open-lowest : (i : ℕ) → i ≡ place is_closed station.slots → i < 16 → value i ≡ vacancy station key
         open-lowest i e h =
             let l : place is_closed station.slots < 16 = omega (arith, e, h) in
-            ap (λ (n : ℕ). changed_at station (open_slot key Idle) (value n)) e
-            ∙ ap (changed_at station (open_slot key Idle))
-            (pass refusal.State _ _ s (pass refusal.Field _ _ r (pass refusal.Taken _ _ free (pass refusal.Full _ _ (holds station.format station.slots is_closed s l) (none_left _)))))
+            ap value e
+            ∙ pass refusal.State _ _ s (pass refusal.Field _ _ r (pass refusal.Taken _ _ free (pass refusal.Full _ _ (holds station.format station.slots is_closed s l) (none_left _))))
 
--- ---- closing
+        -- what the search for a closed slot found, or FULL
+        pub open_found : (o : Option ℕ) → o ≡ position is_closed station.slots → meaning (ok_or o refusal.Full) ≡ vacancy station key
+        open_found None p = open_full (nowhere station.format station.slots is_closed s None p refl)
+        open_found (Some i) p =
+            let at = position_some is_closed station.slots i p in
+            open-lowest i at.0 (omega (arith, at.0, at.1, sixteen station.format station.slots is_closed s))
 
-module _ (station : Station) (i : ℕ) where
-  pub close_state : sound_station station ≡ false → refuses station (number refusal.State) ≡ closing station i
-  unfolding closing
-  close_state s = ap (changed_at station closed_slot) (stop refusal.State _ _ s)
+  -- a slot that opens is one of the sixteen
+  pub open_within : (r : Returned ℕ) → meaning r ≡ vacancy station key → IfOk r (λ i. i < 16)
+  open_within (Err name) e = tt
+  open_within (Ok i) e =
+      let p = passed _ _ _ (sym e) in
+      omega (arith, p.1, within_sixteen station.format station.slots is_closed p.0.0 p.0.1.1.1.0)
 
-  pub close_closed : sound_station station ≡ true → is_open station.slots i ≡ false → refuses station (number refusal.Closed) ≡ closing station i
-  unfolding closing is_open
-  close_closed s o = ap (changed_at station closed_slot) (pass refusal.State _ _ s (stop refusal.Closed _ _ o))
-
-  pub close_open : sound_station station ≡ true → is_open station.slots i ≡ true
-      → ◌≡◌ {A = StationAfter} (record { answer = value i; station = with_slots station (set station.slots i closed_slot) }) (closing station i)
-  unfolding closing is_open
-  close_open s o = ap (changed_at station closed_slot) (pass refusal.State _ _ s (pass refusal.Closed _ _ o (none_left i)))
+-- ---- closing: the slot that closes
 
 pub open_below : (slots : List Slot) (i : ℕ) → is_open slots i ≡ true → i < 16
 unfolding is_open
 open_below slots i o = ltb-true i 16 (each _ o).0
+
+-- an open slot, by the stream there
+module _ (slots : List Slot) (n : length slots ≡ 16) (i : ℕ) where
+  pub stream_open : (stream : Stream) → Some stream ≡ (slot_at slots i).occupancy → is_open slots i ≡ true
+  unfolding is_open
+  stream_open stream e = go (ltb i 16) refl
+    where
+      go : (b : Bool) → ltb i 16 ≡ b → is_open slots i ≡ true
+      go true l = from_each _ (l, (rw (← e) refl, tt))
+      go false l =
+          let out = get_or-eq_default slots closed_slot (omega (arith, ltb-false _ _ l, n)) in
+          let z : Some stream ≡ None = e ∙ ap (λ (slot : Slot). slot.occupancy) out in
+          cc
+
+  pub none_open : None ≡ (slot_at slots i).occupancy → is_open slots i ≡ false
+  unfolding is_open all_true all_after
+  none_open e = rw (← e) (go (ltb i 16))
+    where
+      go : (b : Bool) → all_true (b ∷ false ∷ []) ≡ false
+      go true = refl
+      go false = refl
+
+module _ (station : Station) (i : ℕ) where
+  pub close_state : sound_station station ≡ false → refused (number refusal.State) ≡ occupied station i
+  close_state s = stop refusal.State _ _ s
+
+  module _ (s : sound_station station ≡ true) where
+    pub close_closed : is_open station.slots i ≡ false → refused (number refusal.Closed) ≡ occupied station i
+    close_closed o = pass refusal.State _ _ s (stop refusal.Closed _ _ o)
+
+    pub close_open : is_open station.slots i ≡ true → value i ≡ occupied station i
+    close_open o = pass refusal.State _ _ s (pass refusal.Closed _ _ o (none_left i))
+
+  pub close_within : (r : Returned ℕ) → meaning r ≡ occupied station i → IfOk r (λ j. j < 16)
+  close_within (Err name) e = tt
+  close_within (Ok j) e = let p = passed _ _ _ (sym e) in omega (arith, p.1, open_below station.slots i p.0.1.0)
 
 -- ---- reading
 
@@ -145,6 +183,11 @@ module _ (station : Station) (store : List ℕ) (i : ℕ) where
         read_none d =
             rw (sym e)
             (ap length_of (pass refusal.State _ _ s (pass refusal.Store _ _ (eq-eqb _ _ w) (pass refusal.Closed _ _ o (stop refusal.NoPacket _ _ d)))))
+
+pub not_done : (p : Progress) → ((h : ℕ) → p ≡ Done h → ⊥) → is_done p ≡ false
+not_done Idle n = refl
+not_done (Collecting h) n = refl
+not_done (Done h) n = absurd (n h refl)
 
 -- what is done in a sound slot is within the area
 done_small : (format : Format) (o : Option Stream) (h : ℕ) → slot_sound format o ≡ true → is_done (progress_in o) ≡ true → held (progress_in o) ≤ 2048

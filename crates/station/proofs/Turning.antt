@@ -5,233 +5,188 @@ use mathlib.Core.Logic.{◌≢◌}
 use mathlib.Core.Bool.{Bool, true, false, cond}
 use mathlib.Core.List.{List, [], ◌∷◌, ◌++◌}
 use native.Mathlib.Omega.{arith}
-use lib.Dec.{leb, eqb}
+use lib.Dec.{leb, ltb, eqb}
 use lib.ListN.{length, set, take, drop, length-drop}
-use lib.Seq.{set-get_or, set_out, take_all, drop-drop}
+use lib.Seq.{take_all, drop-drop}
 use borrow.Rule.Slice.PartMut.{put_mid}
-use borrow.Author.Tests.{eq-eqb, ne_eqb, lt-ltb, le-ltb, lt-leb, le-leb}
+use borrow.Author.Tests.{eqb-true, eq-eqb, ne_eqb, ltb-true, lt-ltb, le-ltb, lt-leb, le-leb}
+use Rattle.std.specs.Prelude.{Option, None, Some, Ok, Err, position}
 use Rattle.format.specs.declared.Format.{Format}
 use Rattle.format.specs.declared.Refusal.{Refusal}
-use Rattle.format.specs.declared.Refusal.TheVariants.{Field, Store, State}
-use Rattle.format.specs.Refusals.{Returned}
-use Rattle.std.specs.Prelude.{Ok}
-use Rattle.format.proofs.Checks.{stop_then, passed}
-use Rattle.format.specs.Refusals as answers
-use Rattle.format.specs.Refusals.{check, Result, value, refused, number, guarded, checked_then}
+use Rattle.format.specs.declared.Refusal.TheVariants.{Field, Store, Closed, State, Surplus}
+use Rattle.format.specs.Refusals.{Returned, check, Result, value, refused, number, Check, guarded, checked_then}
+use Rattle.format.proofs.Checks.{stop, pass, none_left, stop_then, pass_then, none_left_then, passed, passed_then}
 use Rattle.frame.specs.declared.Head.{Head}
-use Rattle.format.specs.Refusals.{Returned}
-use Rattle.frame.specs.declared.Head.{Head}
-use Rattle.std.specs.Prelude.{Ok}
 use Rattle.frame.specs.Judge as verdicts
-use Rattle.frame.proofs.Judged.{sound_image}
 use Rattle.frame.specs.Judge.{Frame, Judged, judge}
-use Rattle.format.specs.Refusals.{Returned}
+use Rattle.frame.proofs.Judged.{sound_image}
 use Rattle.stream.specs.declared.Answer.{Answer}
 use Rattle.stream.specs.declared.Answer.TheVariants.{Filtered}
-use Rattle.std.specs.Prelude.{Err, Ok}
 use Rattle.stream.specs.declared.Progress.{Progress}
 use Rattle.stream.specs.declared.Stepped.{Stepped}
-use Rattle.stream.specs.Answers.{meaning}
+use Rattle.stream.specs.Answers.{meaning, filtered}
 use Rattle.stream.specs.Step.{Next, step, offered, next_of}
 use Rattle.slot.specs.declared.Key.{Key}
 use Rattle.slot.specs.declared.Slot.{Slot}
-use Rattle.slot.specs.Slots.{closed_slot, open_slot, slot_at, has_key, place}
+use Rattle.slot.specs.Slots.{open_slot, slot_at, is_closed, has_key, place}
 use Rattle.slot.specs.Sound.{sound, sought}
-use Rattle.slot.proofs.Places.{place_within}
-use Rattle.station.specs.declared.Turn.{Turn}
-use Rattle.station.specs.Stations.{station_of, area, with_area}
-use Rattle.station.specs.Receive.{After, unchanged, key_of, progress_of, step_at, deliver, judged_as, receive, concerned_by, concerned, after_turn}
-use Rattle.station.specs.Parts.{refused_as, frame_of, Steps}
+use Rattle.slot.proofs.CodeLaws.{sought_refused, sought_found}
+use Rattle.slot.proofs.Places.{position_some, position_none}
+use Rattle.station.specs.declared.Station.{Station}
+use Rattle.station.specs.declared.turn.Turn.{Turn}
+use Rattle.station.specs.Stations.{sound_station, with_slots, area, with_area, full_size}
+use Rattle.station.specs.Receive.{After, unchanged, key_of, progress_of, step_at, deliver, judged_as, examined, let_in, receive, concerned, changed, named, after_turn, step_in, step_checks, area_step, went, stepping, slot_of, stepped}
+use Rattle.station.specs.Parts.{frame_of, LetIn}
 use Rattle.station.proofs.Areas.{area_length}
+use Rattle.station.proofs.Handing.{sixteen}
 
-abbrev pub turn_of : ℕ → Slot → Returned Answer → Turn
-turn_of at slot answer = record { at = at; slot = slot; answer = answer }
+-- ---- what is let in
 
--- what a search says of the slots
-pub sought_refused : (format : Format) (slots : List Slot) (key : Key) (n : ℕ) → sought format slots key ≡ refused n
-    → (sound format slots ≡ false) × (n ≡ number State)
-unfolding guarded
-sought_refused format slots key n e = go (sound format slots) e
-  where
-    go : (b : Bool) → cond b (value (place (has_key key) slots)) (refused (number State)) ≡ refused n → (b ≡ false) × (n ≡ number State)
-    go true e = let z : ◌≡◌ {A = ℕ} 0 1 = cc in absurd (omega arith)
-    go false e = (refl, (cc))
+module _ (station : Station) (store : List ℕ) (bus : ℕ) (image : List ℕ) where
+  pub in_state : (key : Key) (name : Refusal) → Err name ≡ sought station.format station.slots key → refused (number name) ≡ let_in station store bus image
+  in_state key name e = let u = sought_refused station.format station.slots key name e in ap (λ (n : Refusal). refused (number n)) u.1 ∙ stop_then State _ _ u.0
 
-pub sought_at : (format : Format) (slots : List Slot) (key : Key) (i : ℕ) → sought format slots key ≡ value i
-    → (sound format slots ≡ true) × (place (has_key key) slots ≡ i)
-sought_at format slots key i e =
-    let p = passed (check State (sound format slots) ∷ []) (place (has_key key) slots) i e in (p.0.0, p.1)
+  module _ (s : sound_station station ≡ true) where
+    pub in_store : length store ≢ 32768 → refused (number Store) ≡ let_in station store bus image
+    in_store w = pass_then State _ _ s (stop_then Store _ _ (ne_eqb _ _ w))
 
--- a turn that leaves every slot as it was: it names none, or what that slot is
-pub record Leaves (slots : List Slot) : Type 0 where
-  pub at : ℕ
-  pub slot : Slot
-  pub kept : set slots at slot ≡ slots
+    module _ (w : length store ≡ 32768) where
+      in_examined : examined station.format bus image ≡ let_in station store bus image
+      in_examined = pass_then State _ _ s (pass_then Store _ _ (eq-eqb _ _ w) (none_left_then _))
 
-abbrev pub names_none : (slots : List Slot) → length slots ≡ 16 → Leaves slots
-names_none slots sixteen = record { at = 16; slot = slot_at slots 0; kept = set_out slots 16 (slot_at slots 0) (omega (arith, sixteen)) }
+      pub in_field : 1 < bus → refused (number Field) ≡ let_in station store bus image
+      in_field b = stop_then Field _ _ (lt-leb _ _ b) ∙ in_examined
 
-abbrev pub names_first : (slots : List Slot) → Leaves slots
-names_first slots = record { at = 0; slot = slot_at slots 0; kept = set-get_or slots 0 closed_slot }
+      pub in_judged : bus ≤ 1 → judge station.format image ≡ let_in station store bus image
+      in_judged b = pass_then Field _ _ (le-leb _ _ b) (none_left_then _) ∙ in_examined
 
-module _ (format : Format) (slots : List Slot) (store : List ℕ) (bus : ℕ) (image : List ℕ) where
-  -- the image is a frame
-  module _ (s : sound format slots ≡ true) (w : length store ≡ 32768) (b : bus ≤ 1) (judged : Judged) (e : value judged ≡ judge format image) where
-    as-frame : receive (station_of format slots) store bus image ≡ deliver (station_of format slots) store (key_of bus judged.frame) judged.frame
-    unfolding receive checked_then
-    as-frame = rw (s, eq-eqb (length store) 32768 w, le-leb bus 1 b, sym e)
+-- a refusal
+module _ (station : Station) (store : List ℕ) (bus : ℕ) (image : List ℕ) where
+  module _ (n : ℕ) (e : refused n ≡ let_in station store bus image) where
+    pub refused_at : 16 ≡ concerned station store bus image
+    unfolding concerned
+    refused_at = rw (← e) refl
 
-    pub at_slot : (i : ℕ) → place (has_key (key_of bus judged.frame)) slots ≡ i → i < 16
-        → (r : Turn) (last : List ℕ) → Steps format (slot_at slots i) i (key_of bus judged.frame) judged.frame store r last
-        → after_turn format slots r last ≡ receive (station_of format slots) store bus image
-    unfolding deliver step_at
-    at_slot i p h r last t =
-        rw (as-frame, p, lt-ltb i 16 h)
-        (λ k. record {
-          answer = t.answer k;
-          station = station_of format (set slots (t.at k) (t.slot' k));
-          store = t.bytes k;
-        })
-
-    pub on-frame : place (has_key (key_of bus judged.frame)) slots ≡ concerned (station_of format slots) store bus image
-    unfolding concerned checked_then
-    on-frame = rw (s, eq-eqb (length store) 32768 w, le-leb bus 1 b, sym e) refl
-
-  -- no slot is concerned
-  pub on_image : (own : Refusal) → refused (number own) ≡ judge format image → 16 ≡ concerned (station_of format slots) store bus image
-  unfolding concerned checked_then
-  on_image own e = go (sound format slots) (eqb (length store) 32768) (leb bus 1)
-    where
-      go : (s w b : Bool) → 16 ≡ concerned_by slots bus (cond s (cond w (cond b (judge format image) (refused 9)) (refused 13)) (refused 21))
-      go false w b = refl
-      go true false b = refl
-      go true true false = refl
-      go true true true = ap (λ (j : Result Judged). concerned_by slots bus j) e
-
-  pub on_state_lem : (key : Key) (name : Refusal) → refused (number name) ≡ sought format slots key → 16 ≡ concerned (station_of format slots) store bus image
-  unfolding concerned checked_then
-  on_state_lem key name e = rw (sought_refused format slots key (number name) (sym e)).0 refl
-
-  pub on_store : sound format slots ≡ true → length store ≢ 32768 → 16 ≡ concerned (station_of format slots) store bus image
-  unfolding concerned checked_then
-  on_store s w = rw (s, ne_eqb (length store) 32768 w) refl
-
-  pub on_field : sound format slots ≡ true → length store ≡ 32768 → 1 < bus → 16 ≡ concerned (station_of format slots) store bus image
-  unfolding concerned checked_then
-  on_field s w b = rw (s, eq-eqb (length store) 32768 w, lt-leb bus 1 b) refl
-
-  pub on_none : length slots ≡ 16 → sound format slots ≡ true → length store ≡ 32768 → bus ≤ 1 → (judged : Judged) → value judged ≡ judge format image
-      → (i : ℕ) → place (has_key (key_of bus judged.frame)) slots ≡ i → 16 ≤ i → 16 ≡ concerned (station_of format slots) store bus image
-  on_none n s w b judged e i p h =
-      let most = place_within (has_key (key_of bus judged.frame)) slots in
-      let all : 16 ≡ place (has_key (key_of bus judged.frame)) slots = omega (arith, most, n, p, h) in
-      all ∙ on-frame s w b judged e
-
-  -- no slot changes
-  module _ (l : Leaves slots) where
-    abbrev pub unmoved : Returned Answer → After
-    unmoved answer = after_turn format slots (turn_of l.at l.slot answer) store
-
-    stays : (answer : Returned Answer) (r : After) → r ≡ unchanged (station_of format slots) store (meaning answer) → unmoved answer ≡ r
-    stays answer r e = rw l.kept (sym e)
-
-    -- the image is refused
-    pub at-image : (own : Refusal) → refused (number own) ≡ judge format image
-        → unmoved (Err (refused_as format slots (length store) bus own)) ≡ receive (station_of format slots) store bus image
-    unfolding refused_as receive checked_then
-    at-image own e = go (sound format slots) (eqb (length store) 32768) (leb bus 1)
-      where
-        go : (s w b : Bool)
-            → unmoved (Err (cond s (cond w (cond b own Field) Store) State))
-            ≡ judged_as (station_of format slots) store bus (cond s (cond w (cond b (judge format image) (refused 9)) (refused 13)) (refused 21))
-        go false w b = stays (Err State) _ refl
-        go true false b = stays (Err Store) _ refl
-        go true true false = stays (Err Field) _ refl
-        go true true true = stays (Err own) _ (ap (λ (j : Result Judged). judged_as (station_of format slots) store bus j) (sym e))
-
-    pub at_state : (key : Key) (name : Refusal) → refused (number name) ≡ sought format slots key
-        → unmoved (Err name) ≡ receive (station_of format slots) store bus image
+    pub by_refusal : unchanged station store (refused n) ≡ receive station store bus image
     unfolding receive
-    at_state key name e =
-        let u = sought_refused format slots key (number name) (sym e) in
-        let why = sym (stop_then State _ _ u.0) ∙ ap refused (sym u.1) in
-        stays (Err name) _ (ap (judged_as (station_of format slots) store bus) why)
+    by_refusal = rw (← e) refl
 
-    pub at_store : sound format slots ≡ true → length store ≢ 32768
-        → unmoved (Err Store) ≡ receive (station_of format slots) store bus image
-    unfolding receive checked_then
-    at_store s w = stays (Err Store) _ (rw (s, ne_eqb (length store) 32768 w))
+  -- a frame
+  module _ (judged : Judged) (e : value judged ≡ let_in station store bus image) where
+    pub frame_at : place (has_key (key_of bus judged.frame)) station.slots ≡ concerned station store bus image
+    unfolding concerned
+    frame_at = rw (← e) refl
 
-    pub at_field : sound format slots ≡ true → length store ≡ 32768 → 1 < bus
-        → unmoved (Err Field) ≡ receive (station_of format slots) store bus image
-    unfolding receive checked_then
-    at_field s w b = stays (Err Field) _ (rw (s, eq-eqb (length store) 32768 w, lt-leb bus 1 b))
+    pub by_none : 16 ≤ place (has_key (key_of bus judged.frame)) station.slots → unchanged station store (value filtered) ≡ receive station store bus image
+    unfolding receive deliver
+    by_none h = rw (← e, le-ltb _ 16 h) refl
 
-    pub at_none : sound format slots ≡ true → length store ≡ 32768 → bus ≤ 1 → (judged : Judged) → value judged ≡ judge format image
-        → (i : ℕ) → place (has_key (key_of bus judged.frame)) slots ≡ i → 16 ≤ i
-        → unmoved (Ok Filtered) ≡ receive (station_of format slots) store bus image
-    unfolding deliver
-    at_none s w b judged e i p h = rw (as-frame s w b judged e) (stays (Ok Filtered) _ (rw (p, le-ltb i 16 h)))
+    pub by_slot : (i : ℕ) → i ≡ place (has_key (key_of bus judged.frame)) station.slots → i < 16
+        → step_at station store i (key_of bus judged.frame) judged.frame ≡ receive station store bus image
+    unfolding receive deliver
+    by_slot i p h = rw (← e, ← p, lt-ltb i 16 h) refl
 
--- a turn that names no slot
-pub none_named : (format : Format) (slots : List Slot) → length slots ≡ 16 → (r : Turn) (store : List ℕ) → 16 ≤ r.at
-    → record { answer = meaning r.answer; station = station_of format slots; store = store } ≡ after_turn format slots r store
-none_named format slots sixteen r store h =
-    ap (λ (l : List Slot). record { answer = meaning r.answer; station = station_of format l; store = store })
-    (sym (set_out slots r.at r.slot (omega (arith, sixteen))))
+pub rest_is : (image : List ℕ) (start : ℕ) → take (length image - start) (drop start image) ≡ drop start image
+rest_is image start = take_all (length image - start) (drop start image) (omega (arith, length-drop start image))
 
--- ---- the stream of slot i steps on its area
+-- what is known of a frame that is let in
+pub record InFrame (station : Station) (store : List ℕ) (image : List ℕ) (judged : Judged) : Type 0 where
+  pub sixteen : length station.slots ≡ 16
+  pub whole : length store ≡ 32768
+  pub starts : judged.start ≤ length image
+  pub few : length (take (length image - judged.start) (drop judged.start image)) ≤ 8
 
+pub in_frame : (station : Station) (store : List ℕ) (bus : ℕ) (image : List ℕ) (judged : Judged) → value judged ≡ let_in station store bus image
+    → InFrame station store image judged
+in_frame station store bus image judged e =
+    let p = passed_then _ _ _ (sym e) in
+    let n = sound_image station.format image judged (passed_then _ _ _ p.1).1 in
+    let most = n.most in
+    record {
+      sixteen = sixteen station.format station.slots is_closed p.0.0;
+      whole = eqb-true _ _ p.0.1.0;
+      starts = n.starts;
+      few = rw rest_is (omega (arith, length-drop judged.start image));
+    }
+
+-- ---- a slot that is found already steps
+
+-- the area is lent on
 pub part_is : (store : List ℕ) (i : ℕ) → take (2048 * i + 2048 - 2048 * i) (drop (2048 * i) store) ≡ area store i
 unfolding area
 part_is store i = let e : 2048 * i + 2048 - 2048 * i ≡ 2048 = omega arith in rw e
 
-put_is : (store new : List ℕ) (i : ℕ) → put_mid (2048 * i) (2048 * i + 2048 - 2048 * i) store new ≡ with_area store i new
+pub put_is : (store new : List ℕ) (i : ℕ) → put_mid (2048 * i) (2048 * i + 2048 - 2048 * i) store new ≡ with_area store i new
 unfolding with_area
 put_is store new i =
     let e : 2048 * i + 2048 - 2048 * i ≡ 2048 = omega arith in
     ap (λ (n : ℕ). take (2048 * i) store ++ (new ++ drop n (drop (2048 * i) store))) e
     ∙ ap (λ (x : List ℕ). take (2048 * i) store ++ (new ++ x)) (drop-drop 2048 (2048 * i) store)
 
-pub rest_is : (image : List ℕ) (start : ℕ) → take (length image - start) (drop start image) ≡ drop start image
-rest_is image start = take_all (length image - start) (drop start image) (omega (arith, length-drop start image))
-
 offered_is : (format : Format) (progress : Progress) (part : List ℕ) (frame : Frame) → length part ≡ 2048 → length frame.bytes ≤ 8
     → offered format progress part frame.flag frame.number frame.bytes ≡ step format progress part frame
 unfolding offered step guarded
 offered_is format progress part frame l b = rw (eq-eqb (length part) 2048 l, le-leb (length frame.bytes) 8 b)
 
-pub steps : (format : Format) (slot : Slot) (i bus : ℕ) (frame : Frame) (store : List ℕ) → i < 16 → length store ≡ 32768 → length frame.bytes ≤ 8
-    → (next : Stepped) (new : List ℕ) (slot' : Slot) → slot' ≡ open_slot (key_of bus frame) next.progress
-    → (progress : Progress) (part bytes : List ℕ) → next_of next new ≡ offered format progress part frame.flag frame.number bytes
-    → progress ≡ progress_of slot → part ≡ area store i → bytes ≡ frame.bytes
-    → Steps format slot i (key_of bus frame) frame store (turn_of i slot' next.answer) (put_mid (2048 * i) (2048 * i + 2048 - 2048 * i) store new)
-unfolding area
-steps format slot i bus frame store h w b next new slot' es progress part bytes e ep ea eb =
-    let made : next_of next new ≡ step format (progress_of slot) (area store i) frame =
-    e ∙ (λ k. offered format (ep k) (ea k) frame.flag frame.number (eb k))
-    ∙ offered_is format (progress_of slot) (area store i) frame (area_length 2048 16 store w i h) b in
-    record {
-      at = refl;
-      slot' = es ∙ ap (λ (n : Next). open_slot (key_of bus frame) n.progress) made;
-      answer = ap (λ (n : Next). n.answer) made;
-      bytes = put_is store new i ∙ ap (λ (n : Next). with_area store i n.area) made;
-    }
+module _ (format : Format) (progress : Progress) (store : List ℕ) (i : ℕ) (frame : Frame) where
+  pub step_slot : 16 ≤ i → refused (number Closed) ≡ area_step format progress store i frame
+  step_slot h = stop Closed _ _ (le-ltb _ _ h)
 
--- ---- what the code knows once it has judged the image and sought its key
+  module _ (h : i < 16) where
+    pub step_store : length store ≢ 32768 → refused (number Store) ≡ area_step format progress store i frame
+    step_store w = pass Closed _ _ (lt-ltb _ _ h) (stop Store _ _ (ne_eqb _ _ w))
 
-pub record Found (format : Format) (slots : List Slot) (bus : ℕ) (image : List ℕ) (head : Head) (i : ℕ) : Type 0 where
-  pub ok : sound format slots ≡ true
-  pub placed : place (has_key (key_of bus (frame_of head image))) slots ≡ i
-  pub judged : value (record { frame = frame_of head image; start = head.start }) ≡ judge format image
-  pub start : head.start ≤ length image
-  pub bytes : length image - head.start ≤ 8
+    module _ (w : length store ≡ 32768) where
+      pub step_surplus : 8 < length frame.bytes → refused (number Surplus) ≡ area_step format progress store i frame
+      step_surplus b = pass Closed _ _ (lt-ltb _ _ h) (pass Store _ _ (eq-eqb _ _ w) (stop Surplus _ _ (lt-leb _ _ b)))
 
-pub found : (format : Format) (slots : List Slot) (bus : ℕ) (image : List ℕ) (head : Head) (i : ℕ) (v : Returned Head) (o : Returned ℕ)
-    → verdicts.meaning v image ≡ judge format image → v ≡ Ok head
-    → answers.meaning o ≡ sought format slots (key_of bus (frame_of head image)) → o ≡ Ok i → Found format slots bus image head i
-found format slots bus image head i v o e ev es ei =
-    let j = ap (λ (v : Returned Head). verdicts.meaning v image) (sym ev) ∙ e in
-    let t = sought_at format slots (key_of bus (frame_of head image)) i (sym es ∙ ap answers.meaning ei) in
-    let n = sound_image format image (record { frame = frame_of head image; start = head.start }) (sym j) in
-    record { ok = t.0; placed = t.1; judged = j; start = n.starts; bytes = n.most }
+      -- and where it steps
+      module _ (b : length frame.bytes ≤ 8) where
+        pub steps : value (step_in format progress store i frame) ≡ area_step format progress store i frame
+        steps = pass Closed _ _ (lt-ltb _ _ h) (pass Store _ _ (eq-eqb _ _ w) (pass Surplus _ _ (le-leb _ _ b) (none_left _)))
+
+        pub lent_on : (next : Stepped) (new part : List ℕ) → part ≡ area store i → next_of next new ≡ offered format progress part frame.flag frame.number frame.bytes
+            → next_of next (put_mid (2048 * i) (2048 * i + 2048 - 2048 * i) store new) ≡ step_in format progress store i frame
+        unfolding area step_in
+        lent_on next new part q e =
+            let made : next_of next new ≡ step format progress (area store i) frame =
+            e ∙ ap (λ (x : List ℕ). offered format progress x frame.flag frame.number frame.bytes) q
+            ∙ offered_is format progress (area store i) frame (area_length 2048 16 store w i h) b in
+            rw (put_is store new i) (ap (λ (n : Next). record { answer = n.answer; progress = n.progress; area = with_area store i n.area }) made)
+
+-- the checks say the same of what is guarded by them
+refuses_alike : {A B : Type 0} (checks : List Check) (x : A) (y : B) (n : ℕ) → refused n ≡ guarded checks x → refused n ≡ guarded checks y
+unfolding guarded
+refuses_alike [] x y n e = let z : ◌≡◌ {A = ℕ} 0 1 = cc in absurd (omega arith)
+refuses_alike (check name true ∷ rest) x y n e = refuses_alike rest x y n e
+refuses_alike (check name false ∷ rest) x y n e = let z : n ≡ number name = cc in ap refused z
+
+passes_alike : {A B : Type 0} (checks : List Check) (x z : A) (y : B) → value z ≡ guarded checks x → value y ≡ guarded checks y
+unfolding guarded
+passes_alike [] x z y e = refl
+passes_alike (check name true ∷ rest) x z y e = passes_alike rest x z y e
+passes_alike (check name false ∷ rest) x z y e = let w : ◌≡◌ {A = ℕ} 0 1 = cc in absurd (omega arith)
+
+module _ (station : Station) (progress : Progress) (store : List ℕ) (i : ℕ) (key : Key) (frame : Frame) where
+  pub step_refused : (n : ℕ) → refused n ≡ area_step station.format progress store i frame → refused n ≡ stepping store i frame.bytes
+  step_refused n e = refuses_alike (step_checks store i frame.bytes) (step_in station.format progress store i frame) i n e
+
+  pub step_passed : (next : Next) → value next ≡ area_step station.format progress store i frame → value i ≡ stepping store i frame.bytes
+  step_passed next e = passes_alike (step_checks store i frame.bytes) (step_in station.format progress store i frame) next i e
+
+  pub step_below : (next : Next) → value next ≡ area_step station.format progress store i frame → i < 16
+  step_below next e = ltb-true i 16 (passed _ _ _ (sym e)).0.0
+
+  pub slot_steps : progress ≡ progress_of (slot_at station.slots i) → (next : Stepped) (new : List ℕ) → value (next_of next new) ≡ area_step station.format progress store i frame
+      → ◌≡◌ {A = After}
+          (record { answer = meaning next.answer; station = with_slots station (set station.slots i (open_slot key next.progress)); store = new })
+          (step_at station store i key frame)
+  unfolding step_in step_at
+  slot_steps p next new e =
+      let made : next_of next new ≡ step_in station.format (progress_of (slot_at station.slots i)) store i frame =
+      sym (passed _ _ _ (sym e)).1 ∙ ap (λ (q : Progress). step_in station.format q store i frame) p in
+      ap (λ (n : Next). record { answer = n.answer; station = with_slots station (set station.slots i (open_slot key n.progress)); store = n.area }) made
+
+-- a slot that is found steps, where an image is let in
+pub steps_there : (store : List ℕ) (i : ℕ) (bytes : List ℕ) → i < 16 → length store ≡ 32768 → length bytes ≤ 8 → value i ≡ stepping store i bytes
+steps_there store i bytes h w b = pass Closed _ _ (lt-ltb _ _ h) (pass Store _ _ (eq-eqb _ _ w) (pass Surplus _ _ (le-leb _ _ b) (none_left _)))

@@ -23,27 +23,31 @@ abbrev pub changed_at : Station → Slot → Result ℕ → StationAfter
 changed_at station slot (value i) = record { answer = value i; station = with_slots station (set station.slots i slot) }
 changed_at station slot (refused n) = record { answer = refused n; station = station }
 
--- FIELD: a field or bus of the key is out of range, or its fields are of the other format. TAKEN: key already open. FULL: all 16
--- open
-unfoldable pub opening : Station → Key → StationAfter
-opening station key =
-    changed_at station (open_slot key Idle)
-    (guarded
+-- the slot that opens. FIELD: a field or bus of the key is out of range, or its fields are of the other format. TAKEN: key already
+-- open. FULL: all 16 open
+abbrev pub vacancy : Station → Key → Result ℕ
+vacancy station key =
+    guarded
     (check refusal.State (sound_station station)
     ∷ check refusal.Field (key_in_range station.format key)
     ∷ check refusal.Taken (not (any (has_key key) station.slots))
     ∷ check refusal.Full (any is_closed station.slots)
     ∷ [])
-    (place is_closed station.slots))
+    (place is_closed station.slots)
+
+unfoldable pub opening : Station → Key → StationAfter
+opening station key = changed_at station (open_slot key Idle) (vacancy station key)
 
 -- CLOSED: slot number over 15 or slot closed
 unfoldable pub is_open : List Slot → ℕ → Bool
 is_open slots i = all_true (ltb i 16 ∷ not (is_closed (slot_at slots i)) ∷ [])
 
+-- the slot that closes
+abbrev pub occupied : Station → ℕ → Result ℕ
+occupied station i = guarded (check refusal.State (sound_station station) ∷ check refusal.Closed (is_open station.slots i) ∷ []) i
+
 unfoldable pub closing : Station → ℕ → StationAfter
-closing station i =
-    changed_at station closed_slot
-    (guarded (check refusal.State (sound_station station) ∷ check refusal.Closed (is_open station.slots i) ∷ []) i)
+closing station i = changed_at station closed_slot (occupied station i)
 
 -- what the code hands back says
 abbrev pub station_after : Changed → StationAfter

@@ -1,25 +1,26 @@
 -- Document 01, "Streams and receiving": receiving an image on a bus. "On a frame of its key" a stream steps; "A frame with no
 -- open key answers "filtered" and changes nothing." "Refusal numbers", order: 21, 13, 9, then for images 1 to 8, and 25 where 4
 -- stands (document 02, L4); "Nothing is written and the state handed back is the one handed in, except the idle slot after 7 and 8."
-use Rattle.std.specs.Prelude.{ℕ, cond, List, [], ◌∷◌, leb, ltb, set}
+use Rattle.std.specs.Prelude.{ℕ, cond, Option, None, Some, Ok, Err, List, [], ◌∷◌, leb, ltb, length, set}
 use Rattle.format.specs.declared.Format.{Format}
-use Rattle.format.specs.declared.Refusal.TheVariants.{Field, Store, State}
-use Rattle.format.specs.Refusals.{Result, value, refused, check, checked_then}
+use Rattle.format.specs.declared.Refusal.TheVariants.{Field, Store, Closed, State, Surplus}
+use Rattle.format.specs.Refusals.{Result, value, refused, number, Check, check, guarded, checked_then, Returned}
+use Rattle.frame.specs.declared.Head.{Head}
 use Rattle.frame.specs.Judge.{Frame, Judged, judge}
 use Rattle.stream.specs.declared.Progress.{Progress}
 use Rattle.stream.specs.declared.Progress.TheVariants.{Idle}
 use Rattle.stream.specs.Answers.{Reply, filtered, meaning}
-use Rattle.stream.specs.Step.{Next, step}
+use Rattle.stream.specs.declared.Stepped.{Stepped}
+use Rattle.stream.specs.Step.{Next, step, next_of}
 use Rattle.slot.specs.declared.Key.{Key}
-use Rattle.std.specs.Prelude.{Option}
 use Rattle.slot.specs.declared.Stream.{Stream}
-use Rattle.std.specs.Prelude.{None, Some}
 use Rattle.slot.specs.declared.Slot.{Slot}
 use Rattle.slot.specs.Slots.{open_slot, slot_at, has_key, place}
 use Rattle.station.specs.declared.Station.{Station}
 use Rattle.station.specs.declared.Received.{Received}
-use Rattle.station.specs.declared.Turn.{Turn}
-use Rattle.station.specs.Stations.{station_of, sound_station, with_slots, area, with_area, full_size}
+use Rattle.station.specs.declared.turn.Change.{Change}
+use Rattle.station.specs.declared.turn.Turn.{Turn}
+use Rattle.station.specs.Stations.{sound_station, with_slots, area, with_area, full_size}
 
 -- the answer, the station handed back, the store's bytes
 pub record After : Type 0 where
@@ -87,12 +88,56 @@ concerned station store bus image = concerned_by station.slots bus (let_in stati
 abbrev pub after : Received → List ℕ → After
 after r store = record { answer = meaning r.answer; station = r.station; store = store }
 
--- the same for the work over the bare slots, which names a slot, what it becomes, and the answer. There is no slot 16: where that is
--- named, `set` leaves the slots as they are
-abbrev pub after_turn : Format → List Slot → Turn → List ℕ → After
-after_turn format slots r store =
+-- the same for a turn over bare slots, which names the slot that it changes, or none: it is that slot, 16 where there is none; and the
+-- slots become these
+abbrev pub named : Option Change → ℕ
+named None = 16
+named (Some change) = change.at
+
+abbrev pub changed : List Slot → Option Change → List Slot
+changed slots None = slots
+changed slots (Some change) = set slots change.at change.slot
+
+abbrev pub after_turn : Station → Turn → List ℕ → After
+after_turn station r store =
     record {
       answer = meaning r.answer;
-      station = station_of format (set slots r.at r.slot);
+      station = with_slots station (changed station.slots r.change);
       store = store;
     }
+
+-- ---- a slot that is found already steps on a frame's bytes
+
+-- the frame of a head and packet bytes
+abbrev pub framed : Head → List ℕ → Frame
+framed head bytes = record { fields = head.fields; flag = head.flag; number = head.number; bytes = bytes }
+
+-- the stream of slot i, of that progress, steps on its area, and the store after it
+unfoldable pub step_in : Format → Progress → List ℕ → ℕ → Frame → Next
+step_in format progress store i frame =
+    let next : Next = step format progress (area store i) frame in
+    record { answer = next.answer; progress = next.progress; area = with_area store i next.area }
+
+-- CLOSED: slot number over 15. STORE: store not 32,768 bytes. SURPLUS: more than 8 packet bytes
+abbrev pub step_checks : List ℕ → ℕ → List ℕ → List Check
+step_checks store i bytes = check Closed (ltb i 16) ∷ check Store (full_size store) ∷ check Surplus (leb (length bytes) 8) ∷ []
+
+abbrev pub area_step : Format → Progress → List ℕ → ℕ → Frame → Result Next
+area_step format progress store i frame = guarded (step_checks store i frame.bytes) (step_in format progress store i frame)
+
+-- what the code hands back, and the store afterwards, say
+abbrev pub went : Returned Stepped → List ℕ → Result Next
+went (Ok next) store = value (next_of next store)
+went (Err name) store = refused (number name)
+
+-- the slot that steps, 16 where none does; and what comes of it
+abbrev pub stepping : List ℕ → ℕ → List ℕ → Result ℕ
+stepping store i bytes = guarded (step_checks store i bytes) i
+
+abbrev pub slot_of : Result ℕ → ℕ
+slot_of (value i) = i
+slot_of (refused n) = 16
+
+abbrev pub stepped : Station → List ℕ → Key → Frame → Result ℕ → After
+stepped station store key frame (value i) = step_at station store i key frame
+stepped station store key frame (refused n) = unchanged station store (refused n)

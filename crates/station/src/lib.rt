@@ -1,21 +1,24 @@
 // A station: sixteen slots of one format; receiving, opening, closing and reading.
 #![tactic(auto)]
 
-ghost use Rattle.std.specs.Prelude.{◌≡◌, ◌-◌, ◌≤◌, ◌<◌, length};
+ghost use Rattle.std.specs.Prelude.{◌≡◌, ◌<◌, IfOk, IfErr};
 ghost use Rattle.format.specs.Refusals.{meaning};
-ghost use Rattle.slot.specs.Slots.{closed_slot, open_slot};
-ghost use Rattle.station.specs.Stations.{station_of, new_station};
-ghost use Rattle.station.specs.Receive.{key_of, progress_in, receive, concerned, after, after_turn};
+ghost use Rattle.slot.specs.Slots.{open_slot, slot_at};
+ghost use Rattle.station.specs.Stations.{new_station};
+ghost use Rattle.station.specs.Receive.{progress_in, receive, concerned, named, after, after_turn, framed, went, area_step, stepping, slot_of, stepped};
 ghost use Rattle.station.specs.Open as handing;
 ghost use Rattle.station.specs.Read.{reading, length_of, part_of, place_of};
-ghost use Rattle.station.specs.Parts.{refused_as, frame_of, Steps};
+ghost use Rattle.station.specs.Parts.{LetIn};
 ghost use Rattle.station.specs.Demands as demands;
 ghost use Rattle.station.specs.Bounds.{StationBounds};
 
-use format::{Format, Refusal};
+use format::{Fields, Format, Refusal};
 use frame::{Head, judge};
 use slot::{Key, Slot, Stream, first_closed, key_in_range, seek, sound};
-use stream::{Answer, Area, Progress, step};
+use stream::{Answer, Area, Progress, Stepped, step};
+
+mod turn;
+pub use turn::{Change, Turn};
 
 #[derive(Clone, Copy)]
 pub struct Station {
@@ -38,14 +41,6 @@ pub struct Received {
     pub answer: Result<Answer, Refusal>,
 }
 
-// One receiving turn over the bare slots: a slot, what it becomes, and the answer.
-#[derive(Clone, Copy)]
-pub struct Turn {
-    pub at: usize,
-    pub slot: Slot,
-    pub answer: Result<Answer, Refusal>,
-}
-
 // What opening and closing hand back: the next station, and the slot's number or a refusal.
 #[derive(Clone, Copy)]
 pub struct Changed {
@@ -57,150 +52,52 @@ pub struct Changed {
 pub fn progress_in(occupancy: Option<Stream>) -> Progress
     ensures { result ≡ progress_in occupancy }
 {
-    match occupancy {
-        None => Progress::Idle,
-        Some(stream) => stream.progress,
-    }
+    occupancy.map_or(Progress::Idle, |stream| stream.progress)
 }
 
 // A slot that is open with a key, and how far its stream is.
 pub fn open_slot(key: Key, progress: Progress) -> Slot
     ensures { result ≡ open_slot key progress }
 {
-    let stream = Stream {
-        key: key,
-        progress: progress,
-    };
     Slot {
-        occupancy: Some(stream),
+        occupancy: Some(Stream { key, progress }),
     }
 }
 
-fn closed_slot() -> Slot
-    ensures { result ≡ closed_slot }
-{
-    Slot {
-        occupancy: None,
-    }
-}
-
-// The refusal of an image that is refused by own: the station, the store and the bus come first.
-fn refused_as(format: Format, slots: [Slot; 16], size: usize, bus: u8, own: Refusal) -> Refusal
-    ensures { result ≡ refused_as format slots size bus own }
-{
-    if !sound(format, slots) {
-        return Refusal::State;
-    }
-    if size != Store::SIZE {
-        return Refusal::Store;
-    }
-    if bus > 1 {
-        return Refusal::Field;
-    }
-    own
-}
-
-// The stream of slot i steps: its area is lent on, and it becomes open with what comes of it.
-fn step_at(
+// A stream steps on the bytes of a frame with that head: the area of slot i is lent on. Refuses, and changes nothing:
+// CLOSED for a slot number over 15, STORE, SURPLUS for more than 8 bytes.
+pub fn step_area(
     format: Format,
-    slot: Slot,
+    progress: Progress,
     i: usize,
-    bus: u8,
     head: Head,
-    image: &[u8],
+    bytes: &[u8],
     store: &mut [u8],
-) -> Turn
-    requires { (i < 16) × (length store.old ≡ 32768) × (head.start ≤ length image.now) × (length image.now - head.start ≤ 8) }
-    ensures { Steps format slot i (key_of bus (frame_of head image.now)) (frame_of head image.now) store.old result store.new }
-{
-    let occupancy = slot.occupancy;
-    let progress = progress_in(occupancy);
-    let flag = head.flag;
-    let start = head.start;
-    let a = Area::SIZE * i;
-    let e = a + Area::SIZE;
-    let next = step(
-        format,
-        progress,
-        flag,
-        head.number,
-        &image[start..],
-        &mut store[a..e],
-    );
-    let fields = head.fields;
-    let key = Key {
-        bus: bus,
-        fields: fields,
-    };
-    let reached = next.progress;
-    let stepped = open_slot(key, reached);
-    let answer = next.answer;
-    Turn {
-        at: i,
-        slot: stepped,
-        answer: answer,
-    }
-}
-
-// No slot is concerned; some slot has to stand in the turn.
-fn unchanged(slot: Slot, answer: Result<Answer, Refusal>) -> Turn
-    ensures { result ≡ record { at = 16; slot = slot; answer = answer } }
-{
-    Turn {
-        at: 16,
-        slot: slot,
-        answer: answer,
-    }
-}
-
-// Receives an image on a bus, over the bare slots and the lent store: the work of every front, which
-// has only to store the slot named, the one concerned. Where none is, at is 16 and slot is any.
-pub fn take_turn(format: Format, slots: [Slot; 16], store: &mut [u8], bus: u8, image: &[u8]) -> Turn
-    ensures { (result.at ≡ concerned (station_of format slots) store.old bus image.now) × (after_turn format slots result store.new ≡ receive (station_of format slots) store.old bus image.now) }
-{
-    let first = slots[0];
-    match judge(format, image) {
-        Err(own) => {
-            let name = refused_as(format, slots, store.len(), bus, own);
-            unchanged(first, Err(name))
-        }
-        Ok(head) => {
-            let fields = head.fields;
-            let key = Key {
-                bus: bus,
-                fields: fields,
-            };
-            match seek(format, slots, key) {
-                Err(name) => unchanged(first, Err(name)),
-                Ok(i) => {
-                    if store.len() != Store::SIZE {
-                        return unchanged(first, Err(Refusal::Store));
-                    }
-                    if bus > 1 {
-                        return unchanged(first, Err(Refusal::Field));
-                    }
-                    if i >= 16 {
-                        return unchanged(first, Ok(Answer::Filtered));
-                    }
-                    let slot = slots[i];
-                    step_at(format, slot, i, bus, head, image, store)
-                }
-            }
-        }
-    }
-}
-
-fn open_at(slots: [Slot; 16], i: usize) -> bool
-    ensures { result ≡ handing.is_open slots i }
+) -> Result<Stepped, Refusal>
+    ensures stepped { went result store.new ≡ area_step format progress store.old i (framed head bytes.now) }
+    ensures kept { IfErr result (λ _. store.new ≡ store.old) }
 {
     if i >= 16 {
-        return false;
+        return Err(Refusal::Closed);
     }
-    let slot = slots[i];
-    let occupancy = slot.occupancy;
-    match occupancy {
-        None => false,
-        Some(_) => true,
+    if store.len() != Store::SIZE {
+        return Err(Refusal::Store);
+    }
+    if bytes.len() > 8 {
+        return Err(Refusal::Surplus);
+    }
+    let from = Area::SIZE * i;
+    let area = &mut store[from..from + Area::SIZE];
+    Ok(step(format, progress, head.flag, head.number, bytes, area))
+}
+
+// A turn that changes no slot.
+fn unchanged(answer: Result<Answer, Refusal>) -> Turn
+    ensures { result ≡ record { change = None; answer = answer } }
+{
+    Turn {
+        change: None,
+        answer,
     }
 }
 
@@ -209,9 +106,84 @@ impl Station {
     pub fn new(format: Format) -> Station
         ensures { result ≡ new_station format }
     {
-        let slot = closed_slot();
-        let slots = [slot; 16];
-        Station { format, slots }
+        let slot = Slot {
+            occupancy: None,
+        };
+        Station {
+            format,
+            slots: [slot; 16],
+        }
+    }
+
+    // The head of an image and where its key is open; or STATE, STORE, FIELD, then the image's own refusal.
+    // An image that is refused is given some key, so that one search tells in any case whether the slots are sound.
+    fn let_in(
+        &self,
+        store: &[u8],
+        bus: u8,
+        image: &[u8],
+    ) -> Result<(Head, Option<usize>), Refusal>
+        ensures { LetIn self.now store.now bus image.now result }
+    {
+        let judged = judge(self.format, image);
+        let none = Fields::Standard {
+            priority: 0,
+            address: 0,
+            side: 0,
+        };
+        let fields = judged.map_or(none, |head| head.fields);
+        let place = seek(self.format, self.slots, Key { bus, fields })?;
+        if store.len() != Store::SIZE {
+            return Err(Refusal::Store);
+        }
+        if bus > 1 {
+            return Err(Refusal::Field);
+        }
+        Ok((judged?, place))
+    }
+
+    // The stream of a slot, closed or open, steps on the bytes of a frame with that head, and the slot becomes open with
+    // the key. Where step_area refuses nothing changes.
+    pub fn step_at(
+        &self,
+        at: usize,
+        key: Key,
+        head: Head,
+        bytes: &[u8],
+        store: &mut [u8],
+    ) -> Turn
+        ensures at { named result.change ≡ slot_of (stepping store.old at bytes.now) }
+        ensures stepped { after_turn self.now result store.new ≡ stepped self.now store.old key (framed head bytes.now) (stepping store.old at bytes.now) }
+    {
+        let progress = progress_in(self.stream_at(at));
+        match step_area(self.format, progress, at, head, bytes, store) {
+            Err(name) => unchanged(Err(name)),
+            Ok(next) => Turn {
+                change: Some(Change {
+                    at,
+                    slot: open_slot(key, next.progress),
+                }),
+                answer: next.answer,
+            },
+        }
+    }
+
+    // Receives an image on a bus, over the lent store: the work of every front, which has only to store what changes.
+    pub fn take_turn(&self, store: &mut [u8], bus: u8, image: &[u8]) -> Turn
+        ensures at { named result.change ≡ concerned self.now store.old bus image.now }
+        ensures received { after_turn self.now result store.new ≡ receive self.now store.old bus image.now }
+    {
+        match self.let_in(store, bus, image) {
+            Err(name) => unchanged(Err(name)),
+            Ok((_, None)) => unchanged(Ok(Answer::Filtered)),
+            Ok((head, Some(at))) => {
+                let key = Key {
+                    bus,
+                    fields: head.fields,
+                };
+                self.step_at(at, key, head, &image[head.start..], store)
+            }
+        }
     }
 
     // Receives an image on a bus; the store is lent. Answers packet and its length, kept, filtered
@@ -220,89 +192,79 @@ impl Station {
     pub fn receive(mut self, store: &mut [u8], bus: u8, image: &[u8]) -> Received
         ensures { after result store.new ≡ receive self store.old bus image.now }
     {
-        let format = self.format;
-        let slots = self.slots;
-        let t = take_turn(format, slots, store, bus, image);
-        let at = t.at;
-        let slot = t.slot;
-        if at < 16 {
+        let turn = self.take_turn(store, bus, image);
+        if let Some(Change { at, slot }) = turn.change {
             self.slots[at] = slot;
         }
-        let answer = t.answer;
         Received {
             station: self,
-            answer: answer,
+            answer: turn.answer,
         }
+    }
+
+    // What opening and closing hand back: the slot becomes that, or the station stays as it is.
+    fn changed(mut self, at: Result<usize, Refusal>, slot: Slot) -> Changed
+        requires { IfOk at (λ i. i < 16) }
+        ensures { handing.station_after result ≡ handing.changed_at self slot (meaning at) }
+    {
+        if let Ok(i) = at {
+            self.slots[i] = slot;
+        }
+        Changed {
+            station: self,
+            answer: at,
+        }
+    }
+
+    // The stream of an open slot.
+    fn stream_at(&self, i: usize) -> Option<Stream>
+        ensures { result ≡ (slot_at self.now.slots i).occupancy }
+    {
+        self.slots.get(i).and_then(|slot| slot.occupancy)
+    }
+
+    // The lowest closed slot, for a key that can be opened; or STATE, FIELD, TAKEN, FULL.
+    fn vacancy(&self, key: Key) -> Result<usize, Refusal>
+        ensures { meaning result ≡ handing.vacancy self.now key }
+    {
+        let place = seek(self.format, self.slots, key)?;
+        if !key_in_range(self.format, key) {
+            return Err(Refusal::Field);
+        }
+        if place.is_some() {
+            return Err(Refusal::Taken);
+        }
+        first_closed(self.slots).ok_or(Refusal::Full)
     }
 
     // Opens a key in the lowest closed slot and answers that slot's number, or refuses: STATE,
     // FIELD, TAKEN, FULL.
-    pub fn open(mut self, key: Key) -> Changed
+    pub fn open(self, key: Key) -> Changed
         ensures { handing.station_after result ≡ handing.opening self key }
     {
-        let format = self.format;
-        let slots = self.slots;
-        match seek(format, slots, key) {
-            Err(name) => Changed {
-                station: self,
-                answer: Err(name),
-            },
-            Ok(i) => {
-                if !key_in_range(format, key) {
-                    return Changed {
-                        station: self,
-                        answer: Err(Refusal::Field),
-                    };
-                }
-                if i < 16 {
-                    return Changed {
-                        station: self,
-                        answer: Err(Refusal::Taken),
-                    };
-                }
-                let lowest = first_closed(slots);
-                if lowest >= 16 {
-                    return Changed {
-                        station: self,
-                        answer: Err(Refusal::Full),
-                    };
-                }
-                let slot = open_slot(key, Progress::Idle);
-                self.slots[lowest] = slot;
-                Changed {
-                    station: self,
-                    answer: Ok(lowest),
-                }
-            }
+        let slot = open_slot(key, Progress::Idle);
+        self.changed(self.vacancy(key), slot)
+    }
+
+    // The number of a slot that is open; or STATE, CLOSED.
+    fn occupied(&self, i: usize) -> Result<usize, Refusal>
+        ensures { meaning result ≡ handing.occupied self.now i }
+    {
+        if !sound(self.format, self.slots) {
+            return Err(Refusal::State);
         }
+        self.stream_at(i).ok_or(Refusal::Closed)?;
+        Ok(i)
     }
 
     // Closes a slot and answers its number, or refuses: STATE, CLOSED.
-    pub fn close(mut self, i: usize) -> Changed
+    pub fn close(self, i: usize) -> Changed
         ensures { handing.station_after result ≡ handing.closing self i }
     {
-        let format = self.format;
-        let slots = self.slots;
-        let all_sound = sound(format, slots);
-        let is_open = open_at(slots, i);
-        if !all_sound {
-            return Changed {
-                station: self,
-                answer: Err(Refusal::State),
-            };
-        }
-        if !is_open {
-            return Changed {
-                station: self,
-                answer: Err(Refusal::Closed),
-            };
-        }
-        let slot = closed_slot();
-        self.slots[i] = slot;
-        Changed {
-            station: self,
-            answer: Ok(i),
-        }
+        let slot = Slot {
+            occupancy: None,
+        };
+        self.changed(self.occupied(i), slot)
     }
 
     // The length of the packet of a slot that is done, or a refusal: STATE, STORE, CLOSED,
@@ -310,27 +272,18 @@ impl Station {
     pub fn read_length(self, store: &[u8], i: usize) -> Result<usize, Refusal>
         ensures { meaning result ≡ length_of (reading self store.now i) }
     {
-        let format = self.format;
-        let slots = self.slots;
-        if !sound(format, slots) {
+        if !sound(self.format, self.slots) {
             return Err(Refusal::State);
         }
-        let lent = store.len();
-        if lent != Store::SIZE {
+        if store.len() != Store::SIZE {
             return Err(Refusal::Store);
         }
-        if !open_at(slots, i) {
+        let Some(stream) = self.stream_at(i) else {
             return Err(Refusal::Closed);
-        }
-        let slot = slots[i];
-        let occupancy = slot.occupancy;
-        match progress_in(occupancy) {
-            Progress::Idle => Err(Refusal::NoPacket),
-            Progress::Collecting(_) => Err(Refusal::NoPacket),
-            Progress::Done(h) => {
-                let length = h as usize;
-                Ok(length)
-            }
+        };
+        match stream.progress {
+            Progress::Done(h) => Ok(usize::from(h)),
+            _ => Err(Refusal::NoPacket),
         }
     }
 
@@ -344,8 +297,7 @@ impl Station {
             Err(_) => &store[..0],
             Ok(h) => {
                 let from = Area::SIZE * i;
-                let to = from + h;
-                &store[from..to]
+                &store[from..from + h]
             }
         }
     }

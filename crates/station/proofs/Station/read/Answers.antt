@@ -15,8 +15,8 @@ overflow_mul-from c =
     let packet = has_length c.args.self c.args.store.now c.args.i _ (ap meaning (sym c.in-Ok.is) ∙ c.read_length.ensures) in
     omega (arith, packet.below)
 
-pub overflow_add-to : goal.overflow_add-to
-overflow_add-to c =
+pub overflow_add-result : goal.overflow_add-result
+overflow_add-result c =
     let packet = has_length c.args.self c.args.store.now c.args.i _ (ap meaning (sym c.in-Ok.is) ∙ c.read_length.ensures) in
     omega (arith, packet.below, packet.small)
 

@@ -1,39 +1,39 @@
 use Rattle.std.proofs.Common.{refl, sym, ap, ◌∙◌, arith}
+use Rattle.slot.specs.Slots.{is_closed}
+use Rattle.station.specs.Receive.{progress_in}
 use Rattle.station.specs.Read.{is_done}
-use Rattle.station.proofs.Handing.{open_below, read_state, read-store, read-closed, read_none, readable, read_done}
+use Rattle.station.proofs.Handing.{sixteen, stream_open, none_open, not_done, read_state, read-store, read-closed, read_none, readable, read_done}
 use Rattle.station.proofs.Station.read_length.Goals as goal
 
 pub returns-then-not-sound : goal.returns-then-not-sound
 returns-then-not-sound c = read_state c.args.self c.args.store.now c.args.i (sym c.sound.ensures ∙ c.if-not-sound.true)
 
-pub returns-then-lent-ne-SIZE : goal.returns-then-lent-ne-SIZE
-returns-then-lent-ne-SIZE c =
-    read-store c.args.self c.args.store.now c.args.i (sym c.sound.ensures ∙ c.if-not-sound.false) c.if-lent-ne-SIZE.true
+pub returns-then-store-ne-SIZE : goal.returns-then-store-ne-SIZE
+returns-then-store-ne-SIZE c =
+    read-store c.args.self c.args.store.now c.args.i (sym c.sound.ensures ∙ c.if-not-sound.false) c.if-store-ne-SIZE.true
 
-pub returns-then-not-open_at : goal.returns-then-not-open_at
-returns-then-not-open_at c =
-    read-closed c.args.self c.args.store.now c.args.i (sym c.sound.ensures ∙ c.if-not-sound.false) (omega arith)
-    (sym c.open_at.ensures ∙ c.if-not-open_at.true)
+pub returns-in_default : goal.returns-in_default
+returns-in_default c =
+    let s = c.args.self in
+    let ok = sym c.sound.ensures ∙ c.if-not-sound.false in
+    read-closed s c.args.store.now c.args.i ok (omega arith)
+    (none_open s.slots (sixteen s.format s.slots is_closed ok) c.args.i (sym c.in_default.is ∙ c.stream_at.ensures))
 
-pub offset_bounds-slots-i : goal.offset_bounds-slots-i
-offset_bounds-slots-i c = omega (arith, open_below c.args.self.slots c.args.i (sym c.open_at.ensures ∙ c.if-not-open_at.false))
-
-pub bounds-slots-i : goal.bounds-slots-i
-bounds-slots-i c = open_below c.args.self.slots c.args.i (sym c.open_at.ensures ∙ c.if-not-open_at.false)
-
-pub returns-in-Idle : goal.returns-in-Idle
-returns-in-Idle c =
-    read_none c.args.self c.args.store.now c.args.i (sym c.sound.ensures ∙ c.if-not-sound.false) (omega arith)
-    (sym c.open_at.ensures ∙ c.if-not-open_at.false) _ c.progress_in.ensures (ap is_done c.in-Idle.is)
-
-pub returns-in-Collecting : goal.returns-in-Collecting
-returns-in-Collecting c =
-    read_none c.args.self c.args.store.now c.args.i (sym c.sound.ensures ∙ c.if-not-sound.false) (omega arith)
-    (sym c.open_at.ensures ∙ c.if-not-open_at.false) _ c.progress_in.ensures (ap is_done c.in-Collecting.is)
-
+-- the slot is open, with the stream found there
 pub returns-in-Done : goal.returns-in-Done
 returns-in-Done c =
-    let g = c.args in
-    read_done g.self g.store.now g.i _
-    (readable g.self g.store.now g.i (sym c.sound.ensures ∙ c.if-not-sound.false) (omega arith)
-    (sym c.open_at.ensures ∙ c.if-not-open_at.false) _ (sym c.in-Done.is ∙ c.progress_in.ensures) refl)
+    let s = c.args.self in
+    let ok = sym c.sound.ensures ∙ c.if-not-sound.false in
+    let there = sym c.in-Some.is ∙ c.stream_at.ensures in
+    rw c.from.ensures
+    (read_done s c.args.store.now c.args.i _
+    (readable s c.args.store.now c.args.i ok (omega arith) (stream_open s.slots (sixteen s.format s.slots is_closed ok) c.args.i _ there)
+    _ (sym c.in-Done.is ∙ ap progress_in there) refl))
+
+pub returns-in_default-progress : goal.returns-in_default-progress
+returns-in_default-progress c =
+    let s = c.args.self in
+    let ok = sym c.sound.ensures ∙ c.if-not-sound.false in
+    let there = sym c.in-Some.is ∙ c.stream_at.ensures in
+    read_none s c.args.store.now c.args.i ok (omega arith) (stream_open s.slots (sixteen s.format s.slots is_closed ok) c.args.i _ there)
+    _ (ap progress_in there) (not_done _ c.in_default-progress.not-Done)
