@@ -19,6 +19,7 @@ use Rattle.frame.specs.Judge.{Frame}
 use Rattle.frame.specs.Image.{image_of}
 use Rattle.packet.specs.Split.{pieces}
 use Rattle.stream.specs.declared.Progress.TheVariants.{Idle}
+use Rattle.stream.specs.declared.Answer.{Answer}
 use Rattle.stream.specs.Answers.{Reply, packet, kept, meaning}
 use Rattle.stream.specs.Step.{collecting}
 use Rattle.stream.specs.OneStream.{Alone, one_stream}
@@ -31,7 +32,7 @@ use Rattle.slot.specs.declared.Slot.{Slot}
 use Rattle.slot.specs.Slots.{closed_slot, open_slot, slot_at, is_closed, has_key, place}
 use Rattle.slot.specs.Sound.{key_in_range, any}
 use Rattle.station.specs.declared.Station.{Station}
-use Rattle.station.specs.declared.Received.{Received}
+use Rattle.station.specs.declared.HandedBack.{HandedBack}
 use Rattle.station.specs.Stations.{new_station, sound_station, with_slots, area, full_size}
 use Rattle.station.specs.Receive.{receive, concerned, progress_of, after}
 use Rattle.station.specs.Open.{opening, closing}
@@ -112,7 +113,7 @@ Demand3 = Demand3On receive
 
 -- what a call hands back, and the store then
 pub record Given : Type 0 where
-  pub received : Received
+  pub received : HandedBack Answer
   pub store : List ℕ
 
 unfoldable pub Chained : Station → List ℕ → List Call → List Given → Type 0

@@ -10,7 +10,7 @@ use Rattle.slot.specs.declared.Slot.{Slot}
 use Rattle.slot.specs.Slots.{closed_slot, open_slot, slot_at, is_closed, has_key, place}
 use Rattle.slot.specs.Sound.{key_in_range, any}
 use Rattle.station.specs.declared.Station.{Station}
-use Rattle.station.specs.declared.Changed.{Changed}
+use Rattle.station.specs.declared.HandedBack.{HandedBack}
 use Rattle.station.specs.Stations.{sound_station, with_slots}
 
 -- the answer, and the station handed back
@@ -50,5 +50,5 @@ unfoldable pub closing : Station → ℕ → StationAfter
 closing station i = changed_at station closed_slot (occupied station i)
 
 -- what the code hands back says
-abbrev pub station_after : Changed → StationAfter
+abbrev pub station_after : HandedBack ℕ → StationAfter
 station_after r = record { answer = meaning r.answer; station = r.station }

@@ -9,6 +9,7 @@ use Rattle.frame.specs.declared.Head.{Head}
 use Rattle.frame.specs.Judge.{Frame, Judged, judge}
 use Rattle.stream.specs.declared.Progress.{Progress}
 use Rattle.stream.specs.declared.Progress.TheVariants.{Idle}
+use Rattle.stream.specs.declared.Answer.{Answer}
 use Rattle.stream.specs.Answers.{Reply, filtered, meaning}
 use Rattle.stream.specs.declared.Stepped.{Stepped}
 use Rattle.stream.specs.Step.{Next, step, next_of}
@@ -17,7 +18,7 @@ use Rattle.slot.specs.declared.Stream.{Stream}
 use Rattle.slot.specs.declared.Slot.{Slot}
 use Rattle.slot.specs.Slots.{open_slot, slot_at, has_key, place}
 use Rattle.station.specs.declared.Station.{Station}
-use Rattle.station.specs.declared.Received.{Received}
+use Rattle.station.specs.declared.HandedBack.{HandedBack}
 use Rattle.station.specs.declared.turn.Change.{Change}
 use Rattle.station.specs.declared.turn.Turn.{Turn}
 use Rattle.station.specs.Stations.{sound_station, with_slots, area, with_area, full_size}
@@ -85,7 +86,7 @@ unfoldable pub concerned : Station → List ℕ → (bus : ℕ) → List ℕ →
 concerned station store bus image = concerned_by station.slots bus (let_in station store bus image)
 
 -- what the code hands back, and the store afterwards, say
-abbrev pub after : Received → List ℕ → After
+abbrev pub after : HandedBack Answer → List ℕ → After
 after r store = record { answer = meaning r.answer; station = r.station; store = store }
 
 -- the same for a turn over bare slots, which names the slot that it changes, or none: it is that slot, 16 where there is none; and the

@@ -34,18 +34,11 @@ impl Store {
     pub const SIZE: usize = 32768;
 }
 
-// What receiving hands back: the next station, and the answer.
+// What a call hands back: the next station, and the answer or a refusal.
 #[derive(Clone, Copy)]
-pub struct Received {
+pub struct HandedBack<T> {
     pub station: Station,
-    pub answer: Result<Answer, Refusal>,
-}
-
-// What opening and closing hand back: the next station, and the slot's number or a refusal.
-#[derive(Clone, Copy)]
-pub struct Changed {
-    pub station: Station,
-    pub answer: Result<usize, Refusal>,
+    pub answer: Result<T, Refusal>,
 }
 
 // The progress of an open slot; Idle for a closed one, which has none.
@@ -189,28 +182,28 @@ impl Station {
     // Receives an image on a bus; the store is lent. Answers packet and its length, kept, filtered
     // or a refusal: STATE, STORE, FIELD, LENGTH, FORM, REMOTE, COUNT, SURPLUS, PIECE, ORPHAN, STEP,
     // LONG.
-    pub fn receive(mut self, store: &mut [u8], bus: u8, image: &[u8]) -> Received
+    pub fn receive(mut self, store: &mut [u8], bus: u8, image: &[u8]) -> HandedBack<Answer>
         ensures { after result store.new ≡ receive self store.old bus image.now }
     {
         let turn = self.take_turn(store, bus, image);
         if let Some(Change { at, slot }) = turn.change {
             self.slots[at] = slot;
         }
-        Received {
+        HandedBack {
             station: self,
             answer: turn.answer,
         }
     }
 
     // What opening and closing hand back: the slot becomes that, or the station stays as it is.
-    fn changed(mut self, at: Result<usize, Refusal>, slot: Slot) -> Changed
+    fn changed(mut self, at: Result<usize, Refusal>, slot: Slot) -> HandedBack<usize>
         requires { IfOk at (λ i. i < 16) }
         ensures { handing.station_after result ≡ handing.changed_at self slot (meaning at) }
     {
         if let Ok(i) = at {
             self.slots[i] = slot;
         }
-        Changed {
+        HandedBack {
             station: self,
             answer: at,
         }
@@ -239,7 +232,7 @@ impl Station {
 
     // Opens a key in the lowest closed slot and answers that slot's number, or refuses: STATE,
     // FIELD, TAKEN, FULL.
-    pub fn open(self, key: Key) -> Changed
+    pub fn open(self, key: Key) -> HandedBack<usize>
         ensures { handing.station_after result ≡ handing.opening self key }
     {
         let slot = open_slot(key, Progress::Idle);
@@ -258,7 +251,7 @@ impl Station {
     }
 
     // Closes a slot and answers its number, or refuses: STATE, CLOSED.
-    pub fn close(self, i: usize) -> Changed
+    pub fn close(self, i: usize) -> HandedBack<usize>
         ensures { handing.station_after result ≡ handing.closing self i }
     {
         let slot = Slot {
