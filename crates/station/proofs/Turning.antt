@@ -179,8 +179,8 @@ module _ (station : Station) (progress : Progress) (store : List ℕ) (i : ℕ) 
 
   pub slot_steps : progress ≡ progress_of (slot_at station.slots i) → (next : Stepped) (new : List ℕ) → value (next_of next new) ≡ area_step station.format progress store i frame
       → ◌≡◌ {A = After}
-          (record { answer = meaning next.answer; station = with_slots station (set station.slots i (open_slot key next.progress)); store = new })
-          (step_at station store i key frame)
+      (record { answer = meaning next.answer; station = with_slots station (set station.slots i (open_slot key next.progress)); store = new })
+      (step_at station store i key frame)
   unfolding step_in step_at
   slot_steps p next new e =
       let made : next_of next new ≡ step_in station.format (progress_of (slot_at station.slots i)) store i frame =

@@ -18,6 +18,7 @@ use slot::{Key, Slot, Stream, first_closed, key_in_range, seek, sound};
 use stream::{Answer, Area, Progress, Stepped, step};
 
 mod turn;
+
 pub use turn::{Change, Turn};
 
 #[derive(Clone, Copy)]
@@ -40,6 +41,8 @@ pub struct HandedBack<T> {
     pub station: Station,
     pub answer: Result<T, Refusal>,
 }
+
+const CLOSED: Slot = Slot { occupancy: None };
 
 // The progress of an open slot; Idle for a closed one, which has none.
 pub fn progress_in(occupancy: Option<Stream>) -> Progress
@@ -79,8 +82,8 @@ pub fn step_area(
     if bytes.len() > 8 {
         return Err(Refusal::Surplus);
     }
-    let from = Area::SIZE * i;
-    let area = &mut store[from..from + Area::SIZE];
+    let at = Area::SIZE * i;
+    let area = &mut store[at..at + Area::SIZE];
     Ok(step(format, progress, head.flag, head.number, bytes, area))
 }
 
@@ -99,23 +102,13 @@ impl Station {
     pub fn new(format: Format) -> Station
         ensures { result ≡ new_station format }
     {
-        let slot = Slot {
-            occupancy: None,
-        };
-        Station {
-            format,
-            slots: [slot; 16],
-        }
+        let slots = [CLOSED; 16];
+        Station { format, slots }
     }
 
     // The head of an image and where its key is open; or STATE, STORE, FIELD, then the image's own refusal.
     // An image that is refused is given some key, so that one search tells in any case whether the slots are sound.
-    fn let_in(
-        &self,
-        store: &[u8],
-        bus: u8,
-        image: &[u8],
-    ) -> Result<(Head, Option<usize>), Refusal>
+    fn let_in(&self, store: &[u8], bus: u8, image: &[u8]) -> Result<(Head, Option<usize>), Refusal>
         ensures { LetIn self.now store.now bus image.now result }
     {
         let judged = judge(self.format, image);
@@ -137,27 +130,20 @@ impl Station {
 
     // The stream of a slot, closed or open, steps on the bytes of a frame with that head, and the slot becomes open with
     // the key. Where step_area refuses nothing changes.
-    pub fn step_at(
-        &self,
-        at: usize,
-        key: Key,
-        head: Head,
-        bytes: &[u8],
-        store: &mut [u8],
-    ) -> Turn
+    pub fn step_at(&self, at: usize, key: Key, head: Head, bytes: &[u8], store: &mut [u8]) -> Turn
         ensures at { named result.change ≡ slot_of (stepping store.old at bytes.now) }
         ensures stepped { after_turn self.now result store.new ≡ stepped self.now store.old key (framed head bytes.now) (stepping store.old at bytes.now) }
     {
         let progress = progress_in(self.stream_at(at));
         match step_area(self.format, progress, at, head, bytes, store) {
             Err(name) => unchanged(Err(name)),
-            Ok(next) => Turn {
-                change: Some(Change {
-                    at,
-                    slot: open_slot(key, next.progress),
-                }),
-                answer: next.answer,
-            },
+            Ok(next) => {
+                let slot = open_slot(key, next.progress);
+                Turn {
+                    change: Some(Change { at, slot }),
+                    answer: next.answer,
+                }
+            }
         }
     }
 
@@ -235,8 +221,7 @@ impl Station {
     pub fn open(self, key: Key) -> HandedBack<usize>
         ensures { handing.station_after result ≡ handing.opening self key }
     {
-        let slot = open_slot(key, Progress::Idle);
-        self.changed(self.vacancy(key), slot)
+        self.changed(self.vacancy(key), open_slot(key, Progress::Idle))
     }
 
     // The number of a slot that is open; or STATE, CLOSED.
@@ -254,10 +239,7 @@ impl Station {
     pub fn close(self, i: usize) -> HandedBack<usize>
         ensures { handing.station_after result ≡ handing.closing self i }
     {
-        let slot = Slot {
-            occupancy: None,
-        };
-        self.changed(self.occupied(i), slot)
+        self.changed(self.occupied(i), CLOSED)
     }
 
     // The length of the packet of a slot that is done, or a refusal: STATE, STORE, CLOSED,

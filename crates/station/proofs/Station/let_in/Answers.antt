@@ -42,7 +42,7 @@ returns c =
     let key : Key = record { bus = a.bus; fields = c.map_or-fields.result } in
     let f = sought_found a.self.now.format a.self.now.slots key c.in_ok-place.place (sym c.in_ok-place.was ∙ c.seek.ensures) in (
       ap (λ (v : Returned Head). meaning v a.image.now) (sym c.in_ok-judged.was)
-      ∙ c.judge-judged.ensures
-      ∙ in_judged a.self.now a.store.now a.bus a.image.now f.0 (omega arith) (omega arith),
+          ∙ c.judge-judged.ensures
+          ∙ in_judged a.self.now a.store.now a.bus a.image.now f.0 (omega arith) (omega arith),
       rw k at f.1,
     )

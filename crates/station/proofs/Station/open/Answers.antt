@@ -8,4 +8,4 @@ changed-requires c = open_within c.args.self c.args.key c.vacancy.result c.vacan
 
 pub returns : goal.returns
 unfolding opening
-returns c = c.changed.ensures ∙ rw (c.open_slot-slot.ensures, c.vacancy.ensures)
+returns c = c.changed.ensures ∙ rw (c.open_slot.ensures, c.vacancy.ensures)

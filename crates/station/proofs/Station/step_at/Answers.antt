@@ -32,6 +32,6 @@ returns-in-Ok-clause-stepped c =
     let a = c.args in
     let frame = framed a.head a.bytes.now in
     let progress = c.progress_in-progress.result in
-    rw c.open_slot.ensures
+    rw c.open_slot-slot.ensures
     (slot_steps a.self.now progress a.store.now a.at a.key frame (c.progress_in-progress.ensures ∙ ap progress_in c.stream_at.ensures) _ _ c.in-Ok.ensures.stepped
     ∙ ap (stepped a.self.now a.store.now a.key frame) (step_passed a.self.now progress a.store.now a.at a.key frame _ c.in-Ok.ensures.stepped))
