@@ -24,7 +24,7 @@ struct Layout {
 }
 
 // A sound frame, but for its packet bytes: these are the image's bytes from start to its end.
-#[derive(Clone, Copy)]
+#[derive(Clone, Copy, Debug, PartialEq, Eq)]
 pub struct Head {
     pub fields: Fields,
     pub flag: Flag,
@@ -32,17 +32,11 @@ pub struct Head {
     pub start: usize,
 }
 
-// The flag that the two bits of an image are.
-#[tactic(auto, unfolding(crate::specs::Layout::flag_of))]
+// The flag that the two bits of an image are; a number over 3 is read as a single's.
 pub fn flag_of(bits: u8) -> Flag
     ensures { result ≡ flag_of bits }
 {
-    match bits {
-        0 => Flag::Middle,
-        1 => Flag::Start,
-        2 => Flag::End,
-        _ => Flag::Single,
-    }
+    Flag::try_from(bits).unwrap_or(Flag::Single)
 }
 
 #[tactic(auto, unfolding(crate::specs::Layout::layout, format::specs::Tests::all_true, format::specs::Tests::all_after))]

@@ -16,7 +16,7 @@ pub struct Watch {
 }
 
 // What hearing hands back: the next watch, and the bus heard or a refusal.
-#[derive(Clone, Copy)]
+#[derive(Clone, Copy, Debug, PartialEq, Eq)]
 pub struct Heard {
     pub watch: Watch,
     pub answer: Result<usize, Refusal>,
