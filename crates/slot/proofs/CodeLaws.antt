@@ -20,6 +20,7 @@ use Rattle.slot.specs.declared.Slot.{Slot}
 use Rattle.std.specs.Prelude.{Option}
 use Rattle.slot.specs.declared.Stream.{Stream}
 use Rattle.std.specs.Prelude.{None, Some, Ok, Err, position}
+use Rattle.std.specs.Option.{ok_or}
 use Rattle.slot.specs.Slots.{same_fields, same_key, open_with, has_key, place}
 use Rattle.slot.specs.Sound.{key_in_range, slot_sound, slots_sound, any, repeated_in, keys_differ, sound, sought}
 use Rattle.slot.specs.Codes.{code_of, key_code, slot_code, codes_from, is, clashing}
@@ -108,6 +109,9 @@ told (Extended p s g d f) (Standard p' a' s') m n r r' h h' q =
     let z : ◌≡◌ {A = ℕ} 0 1 = omega (arith, r.p3, r.s63, r.f31, r'.p3, r'.a63) in absurd (omega arith)
 told (Standard p a s) (Extended p' s' g' d' f') m n r r' h h' q =
     let z : ◌≡◌ {A = ℕ} 0 1 = omega (arith, r.p3, r.a63, r'.p3, r'.s63, r'.f31) in absurd (omega arith)
+
+pub key_code_fits : (format : Format) (key : Key) → key_in_range format key ≡ true → key_code key < 4294967296
+key_code_fits format key e = omega (arith, small format key e)
 
 -- of keys in range, the codes are equal exactly where the keys are the same
 pub key_code_lem : (format : Format) (a b : Key) → key_in_range format a ≡ true → key_in_range format b ≡ true → eqb (key_code a) (key_code b) ≡ same_key a b
@@ -199,7 +203,7 @@ codes_at (slot ∷ slots) n (suc i) d h =
     let z : n + 1 + i ≡ n + suc i = omega arith in
     codes_at slots (n + 1) i d (omega arith) ∙ ap (slot_code (get_or slots i d).occupancy) z
 
--- what the scan and the comparison of the codes that it wrote say of soundness
+-- what the scan for the codes of sound slots, and the comparison of these, say of soundness
 module _ (format : Format) (slots : List Slot) (sixteen : length slots ≡ 16) where
   pub unsound : slots_sound format slots ≡ false → sound format slots ≡ false
   unfolding sound all_true
@@ -208,6 +212,21 @@ module _ (format : Format) (slots : List Slot) (sixteen : length slots ≡ 16) w
   pub sound_codes : (codes : List ℕ) → slots_sound format slots ≡ true → codes ≡ codes_from slots 0 → sound format slots ≡ not (clashing codes)
   unfolding sound all_true
   sound_codes codes e q = rw (eq-eqb (length slots) 16 sixteen, e, q) (differ_codes format slots 0 e)
+
+module _ (format : Format) (slots : List Slot) (found : Option (List ℕ)) (scan : found ≡ cond (slots_sound format slots) (Some (codes_from slots 0)) None) where
+  pub scanned_none : (name : Refusal) → ok_or found State ≡ Err name → (slots_sound format slots ≡ false) × (name ≡ State)
+  scanned_none name q = go (slots_sound format slots) (sym q ∙ ap (λ o. ok_or o State) scan)
+    where
+      go : (b : Bool) → Err name ≡ ok_or (cond b (Some (codes_from slots 0)) None) State → (b ≡ false) × (name ≡ State)
+      go true e = cc
+      go false e = (refl, cc)
+
+  pub scanned_some : (codes : List ℕ) → ok_or found State ≡ Ok codes → (slots_sound format slots ≡ true) × (codes ≡ codes_from slots 0)
+  scanned_some codes q = go (slots_sound format slots) (sym q ∙ ap (λ o. ok_or o State) scan)
+    where
+      go : (b : Bool) → Ok codes ≡ ok_or (cond b (Some (codes_from slots 0)) None) State → (b ≡ true) × (codes ≡ codes_from slots 0)
+      go true e = (refl, cc)
+      go false e = cc
 
 -- the search for a key among the codes finds what the search among the slots finds: no key out of range is open in sound slots
 pub find_key : (format : Format) (slots : List Slot) (key : Key) (codes : List ℕ) → slots_sound format slots ≡ true → codes ≡ codes_from slots 0

@@ -1,30 +1,29 @@
 // The sixteen slots of a station: keys, soundness, and which slot is open with a key.
 #![tactic(auto)]
 
-ghost use Rattle.std.specs.Prelude.{◌<◌, ◌≤◌, length, drop, true, cond, None, position, ◌≡◌};
-ghost use Rattle.format.specs.Formats.{format_of};
+ghost use Rattle.std.specs.Prelude.{◌<◌, cond, Some, None, position, ◌≡◌};
 ghost use Rattle.slot.specs.Codes.{key_code, slot_code, codes_from, is, clashing};
-ghost use Rattle.slot.specs.Slots.{same_fields, same_key, is_closed, has_key};
-ghost use Rattle.slot.specs.Sound.{key_in_range, fits, slot_sound, slots_sound, any, sound, sought};
+ghost use Rattle.slot.specs.Slots.{is_closed, has_key};
+ghost use Rattle.slot.specs.Sound.{key_in_range, most_held, fits, slot_sound, slots_sound, any, sound, sought};
 ghost use Rattle.slot.specs.Bounds.{SlotBounds};
 
 use format::{Extended, Fields, Format, Refusal, Standard};
 use stream::Progress;
 
 // What a stream is known by: the bus (0 is A, 1 is B) and all identifier fields.
-#[derive(Clone, Copy)]
+#[derive(Clone, Copy, Debug, PartialEq, Eq)]
 pub struct Key {
     pub bus: u8,
     pub fields: Fields,
 }
 
-#[derive(Clone, Copy)]
+#[derive(Clone, Copy, Debug, PartialEq, Eq)]
 pub struct Stream {
     pub key: Key,
     pub progress: Progress,
 }
 
-#[derive(Clone, Copy)]
+#[derive(Clone, Copy, Debug, PartialEq, Eq)]
 pub struct Slot {
     pub occupancy: Option<Stream>,
 }
@@ -38,105 +37,46 @@ pub fn key_in_range(format: Format, key: Key) -> bool
 
 // The same of a lent key. Keys and slots are lent from here to scan: handed on by value, each would be
 // copied in pieces, and the compiler would put the pieces together again.
+#[tactic(auto, unfolding(crate::specs::Sound::key_in_range, format::specs::Tests::all_true))]
 fn in_range_of(format: Format, key: &Key) -> bool
     ensures { result ≡ key_in_range format key.now }
 {
-    let fields = key.fields;
-    let bus = key.bus <= 1;
-    match format {
-        Format::Extended => match fields {
-            Fields::Extended {
-                priority: _,
-                source: _,
-                group: _,
-                destination: _,
-                function: _,
-            } => bus & fields.in_range(),
-            Fields::Standard {
-                priority: _,
-                address: _,
-                side: _,
-            } => false,
-        },
-        Format::Standard => match fields {
-            Fields::Extended {
-                priority: _,
-                source: _,
-                group: _,
-                destination: _,
-                function: _,
-            } => false,
-            Fields::Standard {
-                priority: _,
-                address: _,
-                side: _,
-            } => bus & fields.in_range(),
-        },
-    }
+    key.bus <= 1 && key.fields.format() == format && key.fields.in_range()
 }
 
 // The most bytes that are held while collecting. A standard piece of number 255 is an end, so that
 // no more than 255 pieces are.
-#[derive(Clone, Copy)]
-pub struct MostHeld;
-
-impl MostHeld {
-    pub const EXTENDED: usize = Extended::PACKET_LIMIT;
-
-    pub const STANDARD: usize = Standard::PACKET_LIMIT - Standard::PIECE_SIZE;
+pub fn most_held(format: Format) -> usize
+    ensures { result ≡ most_held format }
+{
+    match format {
+        Format::Extended => Extended::PACKET_LIMIT,
+        Format::Standard => Standard::PACKET_LIMIT - Standard::PIECE_SIZE,
+    }
 }
 
 // Whether so many bytes can be held.
+#[tactic(auto, unfolding(crate::specs::Sound::fits, format::specs::Tests::all_true))]
 fn fits(format: Format, progress: Progress) -> bool
     ensures { result ≡ fits format progress }
 {
     match progress {
         Progress::Idle => true,
         Progress::Collecting(h) => {
-            let n = h as usize;
-            match format {
-                Format::Extended => {
-                    (n % Extended::PIECE_SIZE == 0)
-                        & (Extended::PIECE_SIZE <= n)
-                        & (n <= MostHeld::EXTENDED)
-                }
-                Format::Standard => {
-                    (n % Standard::PIECE_SIZE == 0)
-                        & (Standard::PIECE_SIZE <= n)
-                        & (n <= MostHeld::STANDARD)
-                }
-            }
+            let n = usize::from(h);
+            let size = format.piece_size();
+            n % size == 0 && size <= n && n <= most_held(format)
         }
-        Progress::Done(h) => {
-            let n = h as usize;
-            match format {
-                Format::Extended => n <= Extended::PACKET_LIMIT,
-                Format::Standard => n <= Standard::PACKET_LIMIT,
-            }
-        }
+        Progress::Done(h) => usize::from(h) <= format.packet_limit(),
     }
 }
 
+#[tactic(auto, unfolding(crate::specs::Sound::slot_sound, format::specs::Tests::all_true))]
 fn slot_sound(format: Format, occupancy: &Option<Stream>) -> bool
     ensures { result ≡ slot_sound format occupancy.now }
 {
-    match occupancy {
-        None => true,
-        Some(stream) => {
-            let progress = stream.progress;
-            if in_range_of(format, &stream.key) {
-                fits(format, progress)
-            } else {
-                false
-            }
-        }
-    }
-}
-
-fn widened(x: u8) -> u32
-    ensures { result ≡ x }
-{
-    x as u32
+    occupancy.as_ref().is_none_or(|stream| in_range_of(format, &stream.key)
+        && fits(format, stream.progress))
 }
 
 // One number for each key in range, made of whole bytes as the fields lie in memory; the function
@@ -145,7 +85,7 @@ fn key_code(key: &Key) -> u32
     requires { key_code key.now < 4294967296 }
     ensures { result ≡ key_code key.now }
 {
-    let bus = widened(key.bus);
+    let bus = u32::from(key.bus);
     match key.fields {
         Fields::Extended {
             priority: p,
@@ -154,18 +94,18 @@ fn key_code(key: &Key) -> u32
             destination: d,
             function: f,
         } => {
-            widened(p)
-                + widened(s) * 256
-                + widened(g) * 65536
-                + widened(d) * 16777216
-                + widened(f) * 4
+            u32::from(p)
+                + u32::from(s) * 256
+                + u32::from(g) * 65536
+                + u32::from(d) * 16777216
+                + u32::from(f) * 4
                 + bus * 128
         }
         Fields::Standard {
             priority: p,
             address: a,
             side: s,
-        } => widened(p) + widened(a) * 256 + widened(s) * 65536 + 16384 + bus * 128,
+        } => u32::from(p) + u32::from(a) * 256 + u32::from(s) * 65536 + 16384 + bus * 128,
     }
 }
 
@@ -176,40 +116,32 @@ fn slot_code(occupancy: &Option<Stream>, i: u32) -> u32
 {
     match occupancy {
         None => 1073741824 + i,
-        Some(stream) => { key_code(&stream.key) }
+        Some(stream) => key_code(&stream.key),
     }
 }
 
-// Whether each slot by itself is sound; if so, the codes are theirs.
-fn scan(format: Format, slots: [Slot; 16], codes: &mut [u32; 16]) -> bool
-    requires { length codes.old ≡ 16 }
-    ensures value { result ≡ slots_sound format slots }
-    ensures codes_len { length codes.new ≡ 16 }
-    ensures codes_after { result ≡ true → codes.new ≡ codes_from slots 0 }
+// The codes of slots each of which by itself is sound.
+fn sound_codes(format: Format, slots: [Slot; 16]) -> Option<[u32; 16]>
+    ensures { result ≡ cond (slots_sound format slots) (Some (codes_from slots 0)) None }
 {
-    let mut n: u32 = 0;
-    let mut i: usize = 0;
-    while i < 16 {
-        let occupancy = &slots[i].occupancy;
-        if !slot_sound(format, occupancy) {
-            return false;
+    let mut codes = [0; 16];
+    for (i, slot) in slots.iter().enumerate() {
+        if !slot_sound(format, &slot.occupancy) {
+            return None;
         }
-        codes[i] = slot_code(occupancy, n);
-        n += 1;
-        i += 1;
+        codes[i] = slot_code(&slot.occupancy, i as u32);
     }
-    true
+    Some(codes)
 }
 
-// Whether the code is among those from a place on. No branch in the row.
-fn repeated(codes: &[u32], from: usize, code: u32) -> bool
-    ensures { result ≡ any (is code) (drop from codes.now) }
+// Whether the code is among those. No branch in the row: by `contains` seek takes a fifth more instructions, and a
+// station by value misses its limit of 1,400.
+fn repeated(codes: &[u32], code: u32) -> bool
+    ensures { result ≡ any (is code) codes.now }
 {
     let mut hit = false;
-    let mut j = from;
-    while j < codes.len() {
-        hit = hit | (codes[j] == code);
-        j += 1;
+    for &other in codes {
+        hit |= other == code;
     }
     hit
 }
@@ -218,14 +150,22 @@ fn repeated(codes: &[u32], from: usize, code: u32) -> bool
 pub fn clash(codes: &[u32]) -> bool
     ensures { result ≡ clashing codes.now }
 {
-    let mut i: usize = 0;
-    while i < codes.len() {
-        if repeated(codes, i + 1, codes[i]) {
+    let mut left = codes;
+    while let Some((&code, rest)) = left.split_first() {
+        if repeated(rest, code) {
             return true;
         }
-        i += 1;
+        left = rest;
     }
     false
+}
+
+// The number of a key in range.
+#[tactic(auto, using(crate::proofs::CodeLaws::key_code_fits))]
+pub fn key_number(format: Format, key: Key) -> Option<u32>
+    ensures { result ≡ cond (key_in_range format key) (Some (key_code key)) None }
+{
+    key_in_range(format, key).then(|| key_code(&key))
 }
 
 fn find_code(codes: &[u32], code: u32) -> Option<usize>
@@ -238,10 +178,7 @@ fn find_code(codes: &[u32], code: u32) -> Option<usize>
 pub fn find_key(format: Format, codes: &[u32], key: Key) -> Option<usize>
     ensures { result ≡ cond (key_in_range format key) (position (is (key_code key)) codes.now) None }
 {
-    if !key_in_range(format, key) {
-        return None;
-    }
-    find_code(codes, key_code(&key))
+    find_code(codes, key_number(format, key)?)
 }
 
 // The first closed slot.
@@ -251,80 +188,20 @@ pub fn first_closed(slots: [Slot; 16]) -> Option<usize>
     slots.iter().position(|slot| slot.occupancy.is_none())
 }
 
-fn same_fields(a: Fields, b: Fields) -> bool
-    ensures { result ≡ same_fields a b }
-{
-    match a {
-        Fields::Extended {
-            priority: p,
-            source: s,
-            group: g,
-            destination: d,
-            function: f,
-        } => match b {
-            Fields::Extended {
-                priority,
-                source,
-                group,
-                destination,
-                function,
-            } => {
-                (p == priority)
-                    & (s == source)
-                    & (g == group)
-                    & (d == destination)
-                    & (f == function)
-            }
-            Fields::Standard {
-                priority: _,
-                address: _,
-                side: _,
-            } => false,
-        },
-        Fields::Standard {
-            priority: p,
-            address: a,
-            side: s,
-        } => match b {
-            Fields::Extended {
-                priority: _,
-                source: _,
-                group: _,
-                destination: _,
-                function: _,
-            } => false,
-            Fields::Standard {
-                priority,
-                address,
-                side,
-            } => (p == priority) & (a == address) & (s == side),
-        },
-    }
-}
-
-fn same_key(a: &Key, b: &Key) -> bool
-    ensures { result ≡ same_key a.now b.now }
-{
-    (a.bus == b.bus) & same_fields(a.fields, b.fields)
-}
-
 // The first slot that is open with the key. The slots need not be sound.
+#[tactic(auto, unfolding(crate::specs::Slots::same_key, crate::specs::Slots::same_fields, format::specs::Tests::all_true))]
 pub fn find(slots: [Slot; 16], key: Key) -> Option<usize>
     ensures { result ≡ position (has_key key) slots }
 {
-    slots.iter().position(|slot| {
-        slot.occupancy
-            .as_ref()
-            .is_some_and(|stream| same_key(&stream.key, &key))
-    })
+    slots.iter().position(|slot| slot.occupancy.is_some_and(|stream| stream.key == key))
 }
 
 // Where the key is open, or STATE. Soundness is found out on the way, from the same codes.
 pub fn seek(format: Format, slots: [Slot; 16], key: Key) -> Result<Option<usize>, Refusal>
     ensures { result ≡ sought format slots key }
 {
-    let mut codes = [0u32; 16];
-    if !scan(format, slots, &mut codes) || clash(&codes) {
+    let codes = sound_codes(format, slots).ok_or(Refusal::State)?;
+    if clash(&codes) {
         return Err(Refusal::State);
     }
     Ok(find_key(format, &codes, key))
@@ -341,17 +218,6 @@ pub fn sound(format: Format, slots: [Slot; 16]) -> bool
         side: 0,
     };
     seek(format, slots, Key { bus: 0, fields }).is_ok()
-}
-
-// The number of a key in range; 0 for any other.
-pub fn key_number(key: Key) -> u32
-    ensures { result ≡ cond (key_in_range (format_of key.fields) key) (key_code key) 0 }
-{
-    let fields = key.fields;
-    if !key_in_range(fields.format(), key) {
-        return 0;
-    }
-    key_code(&key)
 }
 
 // The claims of this crate. It does nothing: its contract ties each claim to its proof.

@@ -10,7 +10,7 @@ ghost use Rattle.stream.specs.Bounds.{StepBounds};
 use format::{Flag, Format, Refusal};
 
 // How far a stream is. Collecting and Done hold h, the number of bytes at the head of the area.
-#[derive(Clone, Copy)]
+#[derive(Clone, Copy, Debug, PartialEq, Eq)]
 pub enum Progress {
     Idle,
     Collecting(u16),
@@ -18,7 +18,7 @@ pub enum Progress {
 }
 
 // What a receiving call answers that is not refused.
-#[derive(Clone, Copy)]
+#[derive(Clone, Copy, Debug, PartialEq, Eq)]
 pub enum Answer {
     Packet { length: usize, broke: bool },
     Kept { broke: bool },
@@ -26,14 +26,14 @@ pub enum Answer {
 }
 
 // The answer at a frame, and the progress after it.
-#[derive(Clone, Copy)]
+#[derive(Clone, Copy, Debug, PartialEq, Eq)]
 pub struct Stepped {
     pub answer: Result<Answer, Refusal>,
     pub progress: Progress,
 }
 
 // The bytes lent to one stream: room for the longest packet.
-#[derive(Clone, Copy)]
+#[derive(Clone, Copy, Debug, PartialEq, Eq)]
 pub struct Area;
 
 impl Area {

@@ -1,9 +1,9 @@
-use Rattle.std.proofs.Common.{◌≡◌, ◌-◌, length, drop}
+use Rattle.std.proofs.Common.{◌≡◌, length}
 use Rattle.slot.specs.Codes.{clashing}
 use Rattle.slot.proofs.clash.Given as goal
 
-abbrev pub invariant-loop-i : goal.invariant-loop-i
-invariant-loop-i l = clashing l.codes ≡ clashing (drop l.i l.codes)
+abbrev pub invariant-loop-code : goal.invariant-loop-code
+invariant-loop-code l = clashing l.codes ≡ clashing l.left
 
-abbrev pub decreases-loop-i : goal.decreases-loop-i
-decreases-loop-i l = length l.codes - l.i
+abbrev pub decreases-loop-code : goal.decreases-loop-code
+decreases-loop-code l = length l.left
