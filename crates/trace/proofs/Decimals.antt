@@ -1,15 +1,16 @@
 -- A number's digits are its decimal.
-use Prim.Native.Nat.{ℕ, zero, suc, ◌+◌, ◌-◌, ◌*◌, ◌/◌, ◌%◌, ◌^◌, ◌≤◌, ◌<◌}
-use mathlib.Core.Path.{◌≡◌, refl, ap, ◌∙◌}
-use mathlib.Core.Bool.{Bool, true, false, ◌&&◌, cond}
+use Prim.Native.Nat.{ℕ, ◌+◌, ◌-◌, ◌*◌, ◌/◌, ◌%◌, ◌≤◌, ◌<◌}
+use mathlib.Core.Path.{◌≡◌, refl, ap, subst, ◌∙◌}
+use mathlib.Core.Bool.{Bool, true, false, ◌&&◌}
 use mathlib.Core.List.{List, [], ◌∷◌, ◌++◌}
-use native.Mathlib.Nat.{div-lt_iff_lt-mul, pow-suc}
 use native.Mathlib.Omega.{arith}
-use lib.Dec.{leb, ltb}
+use lib.Dec.{leb}
 use lib.ListN.{get_or}
-use borrow.Author.Tests.{lt-ltb, le-leb, ltb-true, ltb-false}
+use borrow.Author.Tests.{le-leb}
+use Rattle.std.proofs.lemmas.Fmt.{decimal_by_steps}
 use Rattle.trace.specs.Lines.{ascii, digits, decimal}
 use Rattle.trace.specs.Claims.{are_digits, read_by_ten, InDecimal, Decimal}
+use Rattle.trace.proofs.Texts.{decimal_of_std}
 
 -- one digit more
 digits_more : (a : List ℕ) (d : ℕ) → d < 10 → are_digits a ≡ true → are_digits (a ++ ((48 + d) ∷ [])) ≡ true
@@ -52,20 +53,10 @@ more_digits n a h p =
       read = read_more 0 a (n % 10) ∙ omega (arith, p.read);
     }
 
-in_decimal : (k n : ℕ) → n < 10 ^ suc k → InDecimal n (digits (suc k) n)
-unfolding digits
-in_decimal zero n h = rw (lt-ltb n 10 h) (one_digit n h)
-in_decimal (suc k) n h = go (ltb n 10) refl (in_decimal k (n / 10) ((div-lt_iff_lt-mul {k = 10} {x = n} {y = 10 ^ suc k} (omega arith)).1 (rw pow-suc at h)))
-  where
-    go : (b : Bool) → ltb n 10 ≡ b → InDecimal (n / 10) (digits (suc k) (n / 10))
-        → InDecimal n (cond b ((48 + n) ∷ []) (digits (suc k) (n / 10) ++ ((48 + n % 10) ∷ [])))
-    go true e p = one_digit n (ltb-true n 10 e)
-    go false e p = more_digits n (digits (suc k) (n / 10)) (ltb-false n 10 e) p
-
 too_few : read_by_ten 0 (digits 19 18446744073709551615) ≡ 8446744073709551615
 unfolding read_by_ten digits
 too_few = refl
 
 pub in_decimals : Decimal
 unfolding Decimal decimal
-in_decimals = (λ n h. in_decimal 19 n (omega arith), λ e. omega (arith, too_few, e))
+in_decimals = (λ n h. subst (InDecimal n) (decimal_of_std n h) (decimal_by_steps InDecimal one_digit more_digits n h), λ e. omega (arith, too_few, e))

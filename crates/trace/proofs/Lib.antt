@@ -1,6 +1,4 @@
-mod Reading
 mod Texts
-mod Writing
 mod Decimals
 mod Bounds
 pub mod LineRoom
