@@ -18,7 +18,7 @@ use itoa::Buffer;
 use stream::Answer;
 
 // What stands at the head of a trace's bytes.
-#[derive(Clone, Copy)]
+#[derive(Clone, Copy, Debug, PartialEq, Eq)]
 pub enum Entry {
     // A whole record: its bus, and how many bytes it takes. Its image is those after the first four.
     Record { bus: u8, size: usize },
@@ -89,8 +89,8 @@ pub enum Line {
 // An output of so many bytes has room for every line.
 pub const LINE_ROOM: usize = 96;
 
-// A line while it is put together. Its parts are pushed one by one, and fit by their contracts: of a
-// `write!` that fails no contract says why, and ROOM must mean that the output is too short.
+// A line while it is put together. Each part fits by its contract; `write!` would not do, as no contract
+// says when it fails, and ROOM has to mean that the output is too short.
 type Text = ArrayString<LINE_ROOM>;
 
 #[tactic(auto, using(crate::proofs::Texts::decimal_of_std))]
