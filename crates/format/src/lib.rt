@@ -45,6 +45,7 @@ impl Standard {
     pub const NUMBER_RANGE: usize = 256;
 }
 
+// The numbers are those of a station's lent bytes and of the programs' requests.
 #[derive(Clone, Copy, Debug, PartialEq, Eq)]
 pub enum Format {
     Extended = 0,
@@ -105,7 +106,6 @@ impl Format {
     }
 }
 
-// Programs and lent bytes number the formats so.
 impl TryFrom<u8> for Format {
     type Error = NoSuch;
 
@@ -148,6 +148,7 @@ impl Fields {
         }
     }
 
+    #[tactic(auto, unfolding(crate::specs::Formats::in_range, crate::specs::Tests::all_true, crate::specs::Tests::all_after))]
     pub fn in_range(self) -> bool
         ensures { result ≡ in_range self }
     {
@@ -158,18 +159,12 @@ impl Fields {
                 group,
                 destination,
                 function,
-            } => {
-                (priority <= 3)
-                    & (source <= 63)
-                    & (group <= 3)
-                    & (destination <= 63)
-                    & (function <= 31)
-            }
+            } => priority <= 3 && source <= 63 && group <= 3 && destination <= 63 && function <= 31,
             Fields::Standard {
                 priority,
                 address,
                 side,
-            } => (priority <= 3) & (address <= 63) & (side <= 1),
+            } => priority <= 3 && address <= 63 && side <= 1,
         }
     }
 }
