@@ -1,11 +1,15 @@
 -- How many pieces there are, over the piece size z.
-use Prim.Native.Nat.{ℕ, zero, suc, ◌+◌, ◌-◌, ◌*◌, ◌/◌, ◌%◌, ◌≤◌, ◌<◌}
-use mathlib.Core.Path.{◌≡◌, ◌∙◌}
+use Prim.Native.Nat.{ℕ, zero, suc, ◌+◌, ◌-◌, ◌*◌, ◌/◌, ◌%◌, ◌≤◌, ◌<◌, min}
+use mathlib.Core.Path.{◌≡◌, sym, ap, ◌∙◌}
 use mathlib.Core.List.{List}
 use native.Mathlib.Nat.{mul-suc, suc-mul, mul_comm, mod-lt, mul-le-mul_left, div-add-mod'}
 use native.Mathlib.Omega.{arith}
 use lib.ListN.{length, take, drop, length-drop}
-use lib.Seq.{take_all}
+use Rattle.std.proofs.lemmas.List.{take_min}
+use Rattle.format.specs.declared.Format.{Format}
+use Rattle.format.specs.declared.Format.TheVariants.{Extended, Standard}
+use Rattle.format.specs.Formats.{piece_size}
+use Rattle.format.proofs.Limits.{some_bytes, eight_bytes}
 use borrow.Author.Tests.{lt-leb, le-leb}
 use Rattle.packet.specs.Split.{count_of, piece_bytes}
 
@@ -37,11 +41,6 @@ module _ (z n : ℕ) (pos : 0 < z) (small : z ≤ 8) (long : 8 < n) where
       (by_quotient ((n + (z - 1)) / z) ((n + (z - 1)) % z) (div-add-mod' (n + (z - 1)) z) (mod-lt (n + (z - 1)) pos))
 
 module _ (z : ℕ) (packet : List ℕ) (k : ℕ) where
-  -- piece k begins within the packet
-  pub within_packet : (0 < z) × (z ≤ 8) × (length packet ≤ 2048) × (k < count_of z (length packet)) → 8 < length packet
-      → z * k ≤ length packet
-  within_packet r long = let h = (several z (length packet) r.0 r.1 long).within k r.3 in omega arith
-
   pub bytes_single : length packet ≤ 8 → piece_bytes z packet k ≡ packet
   unfolding piece_bytes
   bytes_single h = rw (le-leb _ _ h)
@@ -51,5 +50,19 @@ module _ (z : ℕ) (packet : List ℕ) (k : ℕ) where
   bytes_several h = rw (lt-leb _ _ h)
 
   -- the last piece has what is left
-  pub bytes_last : 8 < length packet → length packet - z * k ≤ z → piece_bytes z packet k ≡ drop (z * k) packet
-  bytes_last h l = bytes_several h ∙ take_all z (drop (z * k) packet) (rw length-drop l)
+  pub bytes_between : 8 < length packet → z * k ≤ length packet
+      → take (min (length packet) (z * k + z) - z * k) (drop (z * k) packet) ≡ piece_bytes z packet k
+  bytes_between h l =
+      let e : min (length packet) (z * k + z) - z * k ≡ min z (length (drop (z * k) packet)) = omega (arith, length-drop (z * k) packet) in
+      ap (λ m. take m (drop (z * k) packet)) e ∙ take_min z (drop (z * k) packet) ∙ sym (bytes_several h)
+
+-- piece k begins within the packet
+pub within_packet : (format : Format) (packet : List ℕ) (k : ℕ) → k < count_of (piece_size format) (length packet) → 8 < length packet
+    → piece_size format * k ≤ length packet
+within_packet format packet k index long =
+    let h = (several (piece_size format) (length packet) (some_bytes format) (eight_bytes format) long).within k index in omega arith
+
+-- the quotient rounded up, as the code has it
+pub rounded_up : (format : Format) (n : ℕ) → n / piece_size format + min 1 (n % piece_size format) ≡ (n + (piece_size format - 1)) / piece_size format
+rounded_up Extended n = omega arith
+rounded_up Standard n = omega arith

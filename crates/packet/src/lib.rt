@@ -1,9 +1,9 @@
 // Splitting: the pieces of a packet, as frame images.
 #![tactic(auto)]
 
-ghost use Rattle.std.specs.Prelude.{◌≡◌, true, ◌++◌, ◌+◌, ◌%◌, ◌≤◌, ◌<◌, length, take};
+ghost use Rattle.std.specs.Prelude.{◌≡◌, true, ◌++◌, ◌+◌, ◌≤◌, ◌<◌, length, take};
 ghost use Rattle.copying.specs.Copy.{copied};
-ghost use Rattle.format.specs.Formats.{number_range, format_of, in_range};
+ghost use Rattle.format.specs.Formats.{packet_limit, piece_size, number_range, format_of, in_range};
 ghost use Rattle.format.specs.Refusals.{meaning};
 ghost use Rattle.format.specs.Outputs.{fitting, answer, over, output_after, Writes};
 ghost use Rattle.frame.specs.Image.{header_bytes, image_of};
@@ -16,68 +16,44 @@ ghost use Rattle.packet.specs.Bounds.{SendingBounds};
 
 use format::{Fields, Flag, Format, Refusal};
 
-// The number of pieces, over the piece size z.
-fn count_of(z: usize, n: usize) -> usize
-    requires { (0 < z) × (z ≤ 8) × (n ≤ 2048) }
-    ensures { result ≡ count_of z n }
-{
-    if n <= 8 {
-        return 1;
-    }
-    (n + (z - 1)) / z
-}
-
 // The number of pieces of a packet of that size, or SIZE.
+#[tactic(auto, using(crate::proofs::Counts::rounded_up), unfolding(crate::specs::Send::piece_count, crate::specs::Split::count_of, format::specs::Refusals::guarded))]
 pub fn piece_count(format: Format, size: usize) -> Result<usize, Refusal>
     ensures { meaning result ≡ piece_count format size }
 {
     if size > format.packet_limit() {
         return Err(Refusal::Size);
     }
-    let z = format.piece_size();
-    let count = count_of(z, size);
-    Ok(count)
+    if size <= 8 {
+        return Ok(1);
+    }
+    Ok(size.div_ceil(format.piece_size()))
 }
 
+#[tactic(auto, unfolding(crate::specs::Split::piece_flag))]
 fn flag_at(count: usize, k: usize) -> Flag
     requires { k < count }
     ensures { result ≡ piece_flag count k }
 {
-    if count == 1 {
-        return Flag::Single;
+    match k {
+        _ if count == 1 => Flag::Single,
+        0 => Flag::Start,
+        _ if k + 1 == count => Flag::End,
+        _ => Flag::Middle,
     }
-    if k == 0 {
-        return Flag::Start;
-    }
-    if k + 1 == count {
-        return Flag::End;
-    }
-    Flag::Middle
 }
 
-// The number of piece k, over the number range.
-fn number_at(range: usize, k: usize) -> u8
-    requires { (0 < range) × (range ≤ 256) }
-    ensures { result ≡ k % range }
+// The packet bytes of piece k.
+fn bytes_at(format: Format, packet: &[u8], k: usize) -> &[u8]
+    requires { (length packet.now ≤ packet_limit format) × (k < count_of (piece_size format) (length packet.now)) }
+    ensures { result.now ≡ piece_bytes (piece_size format) packet.now k }
 {
-    (k % range) as u8
-}
-
-// The packet bytes of piece k, over the piece size z.
-fn bytes_at(z: usize, packet: &[u8], k: usize) -> &[u8]
-    requires { (0 < z) × (z ≤ 8) × (length packet.now ≤ 2048) × (k < count_of z (length packet.now)) }
-    ensures { result.now ≡ piece_bytes z packet.now k }
-{
-    let n = packet.len();
-    if n <= 8 {
+    if packet.len() <= 8 {
         return packet;
     }
+    let z = format.piece_size();
     let from = z * k;
-    if n - from <= z {
-        return &packet[from..];
-    }
-    let to = from + z;
-    &packet[from..to]
+    &packet[from..packet.len().min(from + z)]
 }
 
 // Writes the first m of head over the output from its start. The lengths that a header has are told
@@ -86,19 +62,12 @@ fn put_head(head: &[u8], m: usize, output: &mut [u8])
     requires { m ≤ length head.now }
     ensures { output.new ≡ copied output.old 0 (take m head.now) }
 {
-    if m == 5 {
-        copying::copy_in(output, 0, &head[..5]);
-        return;
-    }
-    if m == 3 {
-        copying::copy_in(output, 0, &head[..3]);
-        return;
-    }
-    if m == 2 {
-        copying::copy_in(output, 0, &head[..2]);
-        return;
-    }
-    copying::copy_in(output, 0, &head[..m]);
+    match m {
+        5 => copying::copy_in(output, 0, &head[..5]),
+        3 => copying::copy_in(output, 0, &head[..3]),
+        2 => copying::copy_in(output, 0, &head[..2]),
+        _ => copying::copy_in(output, 0, &head[..m]),
+    };
 }
 
 // Writes the first m of head and then bytes over the output from its start.
@@ -110,63 +79,81 @@ fn put(head: &[u8], m: usize, bytes: &[u8], output: &mut [u8])
     copying::copy_in(output, m, bytes);
 }
 
-// The header, after it the number for the pieces that have it among their data bytes, and zeros.
-// A count of 9, eight bytes and a number, never comes about; allowing it spares place a test.
-fn header_of(fields: Fields, flag: Flag, number: u8, count: u8) -> [u8; 6]
-    requires { (in_range fields ≡ true) × (number < number_range (format_of fields)) × (count ≤ 9) }
-    ensures { result ≡ header_bytes fields flag number count ++ filler fields number }
-{
-    let bits = flag.bits();
-    match fields {
-        Fields::Extended {
-            priority,
-            source,
-            group,
-            destination,
-            function,
-        } => [
-            128 + count,
-            64 * priority + source,
-            64 * group + destination,
-            64 * bits + number,
-            8 * function,
-            0,
-        ],
-        Fields::Standard {
-            priority,
-            address,
-            side,
-        } => [
-            64 * priority + address,
-            128 * side + 32 * bits + count,
-            number,
-            0,
-            0,
-            0,
-        ],
-    }
+// What a frame has before its packet bytes, in range.
+#[derive(Clone, Copy)]
+struct Header {
+    fields: Fields,
+    flag: Flag,
+    number: u8,
+    ghost fields_in_range: { in_range fields ≡ true },
+    ghost number_in_range: { number < number_range (format_of fields) },
 }
 
-// Writes the image of a frame, or refuses with ROOM.
-fn place(fields: Fields, flag: Flag, number: u8, bytes: &[u8], output: &mut [u8]) -> Result<usize, Refusal>
-    requires { (in_range fields ≡ true) × (number < number_range (format_of fields)) × (length bytes.now ≤ 8) }
-    ensures { Writes (fitting (image_of (frame_with fields flag number bytes.now)) (length output.old)) output.old (meaning result) output.new }
-{
-    let format = fields.format();
-    let start = format.packet_start(flag);
-    let size = start + bytes.len();
-    if output.len() < size {
-        return Err(Refusal::Room);
+impl Header {
+    // Its bytes, after them the number for the pieces that have it among their data bytes, and zeros.
+    // A count of 9, eight bytes and a number, never comes about; allowing it spares write a test.
+    #[tactic(auto, using(frame::proofs::Flags::bits_small), unfolding(format::specs::Formats::in_range, format::specs::Tests::all_true, format::specs::Tests::all_after, frame::specs::Image::header_bytes, crate::specs::Parts::filler))]
+    fn bytes(self, count: u8) -> [u8; 6]
+        requires { count ≤ 9 }
+        ensures { result ≡ header_bytes self.fields self.flag self.number count ++ filler self.fields self.number }
+    {
+        let bits = self.flag.bits();
+        match self.fields {
+            Fields::Extended {
+                priority,
+                source,
+                group,
+                destination,
+                function,
+            } => [
+                128 + count,
+                64 * priority + source,
+                64 * group + destination,
+                64 * bits + self.number,
+                8 * function,
+                0,
+            ],
+            Fields::Standard {
+                priority,
+                address,
+                side,
+            } => [
+                64 * priority + address,
+                128 * side + 32 * bits + count,
+                self.number,
+                0,
+                0,
+                0,
+            ],
+        }
     }
-    let count = size - format.header_size();
-    let head = header_of(fields, flag, number, count as u8);
-    put(&head, start, bytes, output);
-    Ok(size)
+
+    // Writes the image of the frame that has those packet bytes, or refuses with ROOM.
+    fn write(self, bytes: &[u8], output: &mut [u8]) -> Result<usize, Refusal>
+        requires { length bytes.now ≤ 8 }
+        ensures { Writes (fitting (image_of (frame_with self.fields self.flag self.number bytes.now)) (length output.old)) output.old (meaning result) output.new }
+    {
+        let format = self.fields.format();
+        let start = format.packet_start(self.flag);
+        let size = start + bytes.len();
+        if output.len() < size {
+            return Err(Refusal::Room);
+        }
+        let count = size - format.header_size();
+        let head = self.bytes(count as u8);
+        put(&head, start, bytes, output);
+        Ok(size)
+    }
 }
 
 // Writes the image of piece k of a packet over the head of the output and answers its length, or
 // refuses: FIELD, SIZE, INDEX, ROOM.
-pub fn write_piece(fields: Fields, packet: &[u8], k: usize, output: &mut [u8]) -> Result<usize, Refusal>
+pub fn write_piece(
+    fields: Fields,
+    packet: &[u8],
+    k: usize,
+    output: &mut [u8],
+) -> Result<usize, Refusal>
     ensures result_value { meaning result ≡ answer (send fields packet.now k (length output.old)) }
     ensures output_after { output.new ≡ output_after (send fields packet.now k (length output.old)) output.old }
 {
@@ -174,20 +161,16 @@ pub fn write_piece(fields: Fields, packet: &[u8], k: usize, output: &mut [u8]) -
         return Err(Refusal::Field);
     }
     let format = fields.format();
-    let n = packet.len();
-    if n > format.packet_limit() {
-        return Err(Refusal::Size);
-    }
-    let z = format.piece_size();
-    let count = count_of(z, n);
+    let count = piece_count(format, packet.len())?;
     if k >= count {
         return Err(Refusal::Index);
     }
-    let flag = flag_at(count, k);
-    let range = format.number_range();
-    let number = number_at(range, k);
-    let bytes = bytes_at(z, packet, k);
-    place(fields, flag, number, bytes, output)
+    let header = Header {
+        fields,
+        flag: flag_at(count, k),
+        number: (k % format.number_range()) as u8,
+    };
+    header.write(bytes_at(format, packet, k), output)
 }
 
 // The claims of this crate. It does nothing: its contract ties each claim to its proof.

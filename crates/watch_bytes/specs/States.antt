@@ -12,7 +12,7 @@ use Rattle.words.specs.Words.{word_bytes, word_at}
 use Rattle.watch.specs.declared.Watch.{Watch}
 use Rattle.watch.specs.declared.Checked.{Checked}
 use Rattle.watch.specs.Watching as watching
-use Rattle.watch.specs.Watching.{resets}
+pub use Rattle.watch.specs.Watching.{resets}
 
 -- a release that writes other bytes for a watch gives them another number
 abbrev pub layout_number : ℕ
