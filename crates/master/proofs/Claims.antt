@@ -16,9 +16,7 @@ use Rattle.format.proofs.Checks.{Passed}
 use Rattle.master.specs.declared.Kind.{Kind}
 use Rattle.master.specs.declared.Kind.TheVariants.{Poll, DataBlock, Command}
 use Rattle.master.specs.declared.Exchange.{Exchange}
-use Rattle.std.specs.Prelude.{Option}
-use Rattle.master.specs.declared.Exchange.{Exchange}
-use Rattle.std.specs.Prelude.{None, Some}
+use Rattle.std.specs.Prelude.{Option, None, Some}
 use Rattle.master.specs.declared.Master.{Master}
 use Rattle.master.specs.Masters.{plan_of, chosen_bus, other, switched, buses_in_range, chosen_sound, exchange_sound, sound}
 use Rattle.master.specs.Exchanges.{Told, send, done, gave_up, Step, MasterAfter, given, handed_back, under_way, sent, exchange_ended, starting, counts, replying, chosen_after, again, expired, timing_out}
@@ -108,7 +106,7 @@ keeps : (master : Master) (checks : List Check) (step : Step) (n : ℕ) → (han
     → (handed_back master (guarded checks step)).master ≡ master
 keeps master checks step =
     either master (λ h. (n : ℕ) → h.answer ≡ refused n → h.master ≡ master) step (λ n m e. refl) checks
-    (λ p n e. let z : ◌≡◌ {A = ℕ} 0 1 = cc in absurd (omega arith))
+    (λ p n e. cc)
 
 pub refused_keeps : RefusedKeeps
 unfolding RefusedKeeps starting replying timing_out
@@ -148,7 +146,7 @@ sends_there : (bus : ℕ) (chosen : List ℕ) (x : Exchange) → After bus (give
 sends_there bus chosen x exchange e = let i : x ≡ exchange = cc in ap (λ (y : Exchange). chosen_bus chosen y.node) (sym i)
 
 ends_there : (bus : ℕ) (answer : Told) (chosen : List ℕ) → After bus (given (exchange_ended answer chosen))
-ends_there bus answer chosen exchange e = let z : ◌≡◌ {A = ℕ} 0 1 = cc in absurd (omega arith)
+ends_there bus answer chosen exchange e = cc
 
 expires_there : (bus : ℕ) (chosen : List ℕ) (activity : Option Exchange) → After bus (given (expired chosen activity))
 unfolding expired
@@ -171,7 +169,7 @@ all_calls bus master [] h = h
 all_calls bus master (c ∷ calls) h = all_calls (sent_on bus (call master c).answer) (call master c).master calls (one_call bus master c h)
 
 none_sent : (bus : ℕ) (master : Master) → master.activity ≡ None → SentOn bus master
-none_sent bus master i exchange e = let z : ◌≡◌ {A = ℕ} 0 1 = cc in absurd (omega arith)
+none_sent bus master i exchange e = cc
 
 pub latest_send : LatestSend
 unfolding LatestSend
@@ -181,14 +179,14 @@ counted : (chosen : List ℕ) (bus node function : ℕ) (activity : Option Excha
     → ((exchange : Exchange) → activity ≡ Some exchange → chosen_bus chosen exchange.node ≡ latest)
     → counts chosen bus node function activity ≡ true → bus ≡ latest
 unfolding counts
-counted chosen bus node function None latest h c = let z : ◌≡◌ {A = ℕ} 0 1 = cc in absurd (omega arith)
+counted chosen bus node function None latest h c = cc
 counted chosen bus node function (Some x) latest h c = eqb-true bus _ (each _ c).1.1.0 ∙ h x refl
 
 pub late_reply : LateReply
 unfolding LateReply replying
 late_reply master calls bus node function none i other =
     let m = run master calls in
-    either m (λ h. (h.answer ≢ value done) × (h.master ≡ m)) _ (λ n. ((λ e. let z : ◌≡◌ {A = ℕ} 0 1 = cc in omega arith), refl)) _
+    either m (λ h. (h.answer ≢ value done) × (h.master ≡ m)) _ (λ n. ((λ e. cc), refl)) _
     (λ p. absurd (other (counted m.chosen bus node function m.activity _ (all_calls none master calls (none_sent none master i)) p.1.1.1.0)))
 
 -- ---- an exchange that only times out

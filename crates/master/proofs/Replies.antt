@@ -14,9 +14,7 @@ use Rattle.format.proofs.Tests.{each, from_each, tests}
 use Rattle.master.specs.declared.Kind.{Kind}
 use Rattle.master.specs.declared.Kind.TheVariants.{Poll, DataBlock, Command}
 use Rattle.master.specs.declared.Exchange.{Exchange}
-use Rattle.std.specs.Prelude.{Option}
-use Rattle.master.specs.declared.Exchange.{Exchange}
-use Rattle.std.specs.Prelude.{Some}
+use Rattle.std.specs.Prelude.{Option, Some}
 use Rattle.master.specs.declared.Master.{Master}
 use Rattle.master.specs.Masters.{plan_of, chosen_bus, switched, chosen_sound, sound}
 use Rattle.master.specs.Exchanges.{done, gave_up, Step, MasterAfter, given, under_way, sent, exchange_ended, starting, counts, replying, chosen_after, again, expired, timing_out}
@@ -64,7 +62,7 @@ module _ (m : Master) (x : Exchange) (s : sound m ≡ true) (e : m.activity ≡ 
   unfolding replying
   only_it b n f =
       either m (λ (h : MasterAfter). h.answer ≡ value done → (b ≡ on_it) × (n ≡ x.node) × (f ≡ (plan_of x.kind).awaited)) _
-      (λ r d. let z : ◌≡◌ {A = ℕ} 0 1 = cc in absurd (omega arith)) _
+      (λ r d. cc) _
       (λ p d. no_other b n f (ap (counts m.chosen b n f) (sym e) ∙ p.1.1.1.0))
 
 -- ---- started, and sent again after each timeout

@@ -1,13 +1,11 @@
 -- What is proved of masters. Document 01, "Filters, exchanges and watch". Proofs: proofs/Claims.antt, proofs/Replies.antt (`Answered`,
 -- `Functions`, `BusesKept`) and proofs/Answers.antt (`OneAnswer`).
-use Rattle.std.specs.Prelude.{ℕ, ◌≤◌, ◌<◌, ◌≡◌, ◌≢◌, true, List, [], ◌∷◌, ◌++◌, map, replicate, length}
-use Rattle.format.specs.Refusals.{value, refused}
+use Rattle.std.specs.Prelude.{ℕ, ◌≤◌, ◌<◌, ◌≡◌, ◌≢◌, true, List, [], ◌∷◌, ◌++◌, map, replicate, length, None, Some}
+use Rattle.format.specs.Refusals.{value, refused, Returned}
 use Rattle.master.specs.declared.Kind.{Kind}
 use Rattle.master.specs.declared.Kind.TheVariants.{Poll, DataBlock, Command}
 use Rattle.master.specs.declared.Exchange.{Exchange}
-use Rattle.std.specs.Prelude.{None, Some}
 use Rattle.master.specs.declared.Master.{Master}
-use Rattle.format.specs.Refusals.{Returned}
 use Rattle.master.specs.declared.Answer.{Answer}
 use Rattle.master.specs.Masters.{new_master, plan_of, function_sent, chosen_bus, other, switched, sound}
 use Rattle.master.specs.Exchanges.{send, done, gave_up, starting, replying, timing_out, meaning}

@@ -1,10 +1,9 @@
 -- Examples that hold each rule to its bounds, and document 01's own ("Examples to hold against the rules"): a field for each rule, a line
 -- for each example. proofs/Examples.antt proves them.
-use Rattle.std.specs.Prelude.{ℕ, ◌≡◌, true, false, List, [], ◌∷◌, ◌++◌, replicate}
+use Rattle.std.specs.Prelude.{ℕ, ◌≡◌, true, false, List, [], ◌∷◌, ◌++◌, replicate, None, Some}
 use Rattle.format.specs.Refusals.{value, refused}
 use Rattle.master.specs.declared.Kind.{Kind}
 use Rattle.master.specs.declared.Kind.TheVariants.{Poll, DataBlock, Command}
-use Rattle.std.specs.Prelude.{None, Some}
 use Rattle.master.specs.declared.Master.{Master}
 use Rattle.master.specs.Masters.{new_master, chosen_bus, sound}
 use Rattle.master.specs.Exchanges.{send, done, gave_up}

@@ -4,20 +4,15 @@
 -- chosen bus becomes the other one, and stays so." "Refusal numbers", order: 21, 9, then 18, or 19 then 20. The bus of the latest send is
 -- the bus chosen for the node (claim LatestSend): each send goes out on it, and it changes only at a timeout, which sends again on the
 -- new one or ends the exchange.
-use Rattle.std.specs.Prelude.{ℕ, ◌+◌, Bool, true, false, not, cond, List, [], ◌∷◌, leb, ltb, eqb}
+use Rattle.std.specs.Prelude.{ℕ, ◌+◌, Bool, true, false, not, cond, List, [], ◌∷◌, leb, ltb, eqb, Option, None, Some, Ok, Err}
 use Rattle.format.specs.declared.Refusal.TheVariants as refusal
-use Rattle.format.specs.Refusals.{Result, value, refused, number, check, guarded}
+use Rattle.format.specs.Refusals.{Result, value, refused, number, check, guarded, Returned}
 use Rattle.format.specs.Tests.{all_true}
 use Rattle.master.specs.declared.Kind.{Kind}
 use Rattle.master.specs.declared.Exchange.{Exchange}
-use Rattle.std.specs.Prelude.{Option}
-use Rattle.master.specs.declared.Exchange.{Exchange}
-use Rattle.std.specs.Prelude.{None, Some}
 use Rattle.master.specs.declared.Master.{Master}
-use Rattle.format.specs.Refusals.{Returned}
 use Rattle.master.specs.declared.Answer.{Answer}
 use Rattle.master.specs.declared.Answer.TheVariants as answered
-use Rattle.std.specs.Prelude.{Ok, Err}
 use Rattle.master.specs.declared.Moved.{Moved}
 use Rattle.master.specs.Masters.{plan_of, chosen_bus, switched, sound}
 

@@ -2,14 +2,12 @@
 -- at most one exchange (extended only; none when new). [..] Poll: 1 send, awaits function 2. Data block: 2 sends, awaits 4. Command: 2
 -- sends, then a third on the other bus, awaits 4 (source 9.3). [..] A master is sound when its chosen buses are 0 or 1 and an exchange
 -- under way has a node 0 to 63 and a send count from 1 to its kind's total."
-use Rattle.std.specs.Prelude.{ℕ, ◌-◌, Bool, true, List, [], ◌∷◌, leb, eqb, length, get_or, set, replicate}
+use Rattle.std.specs.Prelude.{ℕ, ◌-◌, Bool, true, List, [], ◌∷◌, leb, eqb, length, get_or, set, replicate, Option, None, Some}
 use Rattle.format.specs.Tests.{all_true}
 use Rattle.master.specs.declared.Kind.{Kind}
 use Rattle.master.specs.declared.Kind.TheVariants.{Poll, DataBlock, Command}
 use Rattle.master.specs.declared.Plan.{Plan}
-use Rattle.std.specs.Prelude.{Option}
 use Rattle.master.specs.declared.Exchange.{Exchange}
-use Rattle.std.specs.Prelude.{None, Some}
 use Rattle.master.specs.declared.Master.{Master}
 
 abbrev pub new_master : Master

@@ -105,7 +105,8 @@ impl Exchange {
     }
 }
 
-// The bus chosen for each node, 0 for A and 1 for B, and the exchange under way, if any.
+// The bus chosen for each node, 0 for A and 1 for B, and the exchange under way, if any. A bus, a node and a
+// function are plain numbers: any may be handed in, and STATE and FIELD refuse those out of range.
 #[derive(Clone, Copy, Debug, PartialEq, Eq)]
 pub struct Master {
     pub chosen: [u8; 64],

@@ -14,9 +14,7 @@ use Rattle.format.proofs.Tests.{each, from_each}
 use Rattle.master.specs.declared.Kind.{Kind}
 use Rattle.master.specs.declared.Kind.TheVariants.{Poll, DataBlock, Command}
 use Rattle.master.specs.declared.Exchange.{Exchange}
-use Rattle.std.specs.Prelude.{Option}
-use Rattle.master.specs.declared.Exchange.{Exchange}
-use Rattle.std.specs.Prelude.{None, Some, Ok, Err, MatchResult}
+use Rattle.std.specs.Prelude.{Option, None, Some, Ok, Err, MatchResult}
 use Rattle.format.specs.declared.Refusal.{Refusal}
 use Rattle.master.specs.declared.Answer.{Answer}
 use Rattle.master.specs.declared.Master.{Master}
@@ -159,7 +157,7 @@ renew_keeps state n = go (eqb (length state) 68)
     left b = cond b (record { answer = value 0; state = state_bytes new_master }) (not_state state)
 
     go : (b : Bool) → (left b).answer ≡ refused n → (left b).state ≡ state
-    go true e = let z : ◌≡◌ {A = ℕ} 0 1 = cc in absurd (omega arith)
+    go true e = cc
     go false e = refl
 
 pub refused_keeps : RefusedKeeps

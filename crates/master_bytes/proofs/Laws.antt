@@ -12,16 +12,14 @@ use Rattle.format.specs.Numbers.{Reads}
 use Rattle.format.specs.Tests.{all_true}
 use Rattle.master.specs.declared.Kind.{Kind}
 use Rattle.master.specs.declared.Kind.TheVariants.{Poll, DataBlock, Command}
-use Rattle.master.specs.Masters.{kind_number}
+use Rattle.master.specs.Masters.{kind_number, sound}
 use lib.ListN.{length}
 use Rattle.format.specs.Refusals.{guarded}
 use Rattle.format.proofs.Tests.{each}
-use Rattle.std.specs.Prelude.{Option}
+use Rattle.std.specs.Prelude.{Option, None, Some, Ok, Err}
 use Rattle.master.specs.declared.Exchange.{Exchange}
-use Rattle.std.specs.Prelude.{None, Some, Ok, Err}
 use Rattle.format.specs.declared.Refusal.TheVariants.{State}
 use Rattle.master.specs.declared.Master.{Master}
-use Rattle.master.specs.Masters.{sound}
 use Rattle.master.specs.Exchanges as exchanges
 use Rattle.master_bytes.specs.States.{last_bytes, kind_of, master_in, is_state, loaded}
 use Rattle.master_bytes.specs.Calls.{moved_in_bytes, not_state, on_state, is_kind, kind_handed_in, starting_as}

@@ -3,13 +3,11 @@
 -- refuses a master that is not sound; bytes that no master writes are refused likewise, before all else, and stay.
 use Rattle.std.specs.Prelude.{ℕ, Bool, cond, List, [], ◌∷◌, leb, eqb, length}
 use Rattle.format.specs.declared.Refusal.TheVariants.{Field, State}
-use Rattle.format.specs.Refusals.{Returned}
+use Rattle.format.specs.Refusals.{Returned, Result, value, refused, number, check, guarded}
 use Rattle.format.specs.Refusals as refusals
-use Rattle.format.specs.Refusals.{Result, value, refused, number, check, guarded}
 use Rattle.format.specs.Tests.{all_true}
 use Rattle.master.specs.declared.Kind.{Kind}
 use Rattle.master.specs.declared.Master.{Master}
-use Rattle.format.specs.Refusals.{Returned}
 use Rattle.master.specs.declared.Answer.{Answer}
 use Rattle.master.specs.Masters.{new_master, sound}
 use Rattle.master.specs.Exchanges as exchanges

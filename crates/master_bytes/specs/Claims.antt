@@ -1,8 +1,7 @@
 -- What is proved of a master in lent bytes; proofs/Claims.antt and proofs/Runs.antt have the proofs.
-use Rattle.std.specs.Prelude.{ℕ, ◌≡◌, ◌≢◌, true, List, map, length}
+use Rattle.std.specs.Prelude.{ℕ, ◌≡◌, ◌≢◌, true, List, map, length, None}
 use Rattle.format.specs.Refusals.{value, refused}
 use Rattle.master.specs.declared.Master.{Master}
-use Rattle.std.specs.Prelude.{None}
 use Rattle.master.specs.Masters.{sound}
 use Rattle.master.specs.Exchanges.{Told, done}
 use Rattle.master.specs.Runs.{answers, run, latest}

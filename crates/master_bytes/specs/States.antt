@@ -3,13 +3,11 @@
 -- node, then the kind of the exchange under way (1 poll, 2 data block, 3 command), its node and its send count; these three are 0 if
 -- there is no exchange; last the number of this layout. Bytes that no master writes are refused as 21 (STATE): another number of bytes,
 -- another layout, a kind over 3, or kind 0 with a node or a send count.
-use Rattle.std.specs.Prelude.{ℕ, Bool, cond, List, [], ◌∷◌, ◌++◌, leb, eqb, length, take, get_or}
+use Rattle.std.specs.Prelude.{ℕ, Bool, cond, List, [], ◌∷◌, ◌++◌, leb, eqb, length, take, get_or, Option, None, Some, Ok, Err}
 use Rattle.format.specs.Tests.{all_true}
 use Rattle.master.specs.declared.Kind.{Kind}
 use Rattle.master.specs.declared.Kind.TheVariants.{Poll, DataBlock, Command}
-use Rattle.std.specs.Prelude.{Option}
 use Rattle.master.specs.declared.Exchange.{Exchange}
-use Rattle.std.specs.Prelude.{None, Some, Ok, Err}
 use Rattle.master.specs.declared.Master.{Master}
 use Rattle.master.specs.Masters.{kind_number}
 use Rattle.format.specs.declared.Refusal.TheVariants.{State}

@@ -12,7 +12,7 @@ use format::Refusal;
 use master::{Answer, Exchange, Kind, Master, Moved};
 
 // The bytes of a state, and the number of their layout, which is the last of them.
-#[derive(Drop)]
+#[derive(Clone, Copy, Debug, PartialEq, Eq)]
 pub struct State;
 
 impl State {
