@@ -1,5 +1,6 @@
 // What the programs share that work off their input as it arrives: reading on after what is held,
-// moving what is left to the front, and writing what was filled.
+// moving what is left to the front, and writing what was filled. How many bytes count stays beside
+// the lent bytes: the calls answer for a number past their end too, which a struct would exclude.
 #![tactic(auto)]
 
 ghost use Rattle.std.specs.Prelude.{◌≡◌, false, ◌≤◌, ◌<◌, length};
