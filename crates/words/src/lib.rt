@@ -1,4 +1,5 @@
-// Numbers of 32 bits as four bytes, low byte first.
+// Numbers of 32 bits as four bytes, low byte first. Calls of their own over the library's, as
+// their contracts cite the definitions in which documents and claims speak of lent bytes.
 #![tactic(auto)]
 
 ghost use Rattle.std.specs.Prelude.{◌≡◌};
