@@ -22,7 +22,8 @@ pub struct Heard {
     pub answer: Result<usize, Refusal>,
 }
 
-// What a check hands back: the next watch, and whether bus A and bus B are to be reset.
+// What a check hands back: the next watch, and whether bus A and bus B are to be reset. The watch is
+// there whatever they say: they are an answer by themselves, as in NoResetKeeps and LastTimes.
 #[derive(Clone, Copy, Debug, PartialEq, Eq)]
 pub struct Checked {
     pub watch: Watch,
@@ -31,7 +32,7 @@ pub struct Checked {
 }
 
 impl Checked {
-    // Which buses are to be reset, as one number: 0 none, 1 A, 2 B, 3 both.
+    // Which buses are to be reset, as the number that programs in C get: 0 none, 1 A, 2 B, 3 both.
     pub fn resets(self) -> usize
         ensures { result ≡ resets self.a self.b }
     {

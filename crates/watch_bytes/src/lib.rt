@@ -11,7 +11,7 @@ use watch::Watch;
 use words::{word_bytes, word_of};
 
 // The bytes of a state, and the number of their layout, which is the last of them.
-#[derive(Drop)]
+#[derive(Clone, Copy, Debug, PartialEq, Eq)]
 pub struct State;
 
 impl State {
