@@ -5,6 +5,7 @@ use mathlib.Core.Bool.{Bool, true, false, ◌&&◌}
 use mathlib.Core.List.{List, [], ◌∷◌, map}
 use native.Mathlib.Omega.{arith}
 use lib.Dec.{eqb}
+use lib.Pointwise.{pointwise, bytes_decides}
 use borrow.Author.Tests.{eqb-true}
 use Rattle.format.specs.Tests.{all_true}
 use Rattle.format.specs.Tables.{AllHold}
@@ -32,25 +33,16 @@ same_bool_lem true false e = cc
 same_bool_lem false true e = cc
 same_bool_lem false false e = refl
 
-abbrev pub same_numbers : List ℕ → List ℕ → Bool
-same_numbers [] [] = true
-same_numbers [] (y ∷ ys) = false
-same_numbers (x ∷ xs) [] = false
-same_numbers (x ∷ xs) (y ∷ ys) = eqb x y && same_numbers xs ys
-
 pub and_true : (a b : Bool) → (a && b) ≡ true → (a ≡ true) × (b ≡ true)
 and_true true b e = (refl, e)
 and_true false b e = let z : ◌≡◌ {A = ℕ} 0 1 = cc in absurd (omega arith)
 
+-- of lists, by the library's test
+abbrev pub same_numbers : List ℕ → List ℕ → Bool
+same_numbers = pointwise eqb
+
 pub same_numbers_lem : (xs ys : List ℕ) → same_numbers xs ys ≡ true → xs ≡ ys
-same_numbers_lem [] [] e = refl
-same_numbers_lem [] (y ∷ ys) e = let z : ◌≡◌ {A = ℕ} 0 1 = cc in absurd (omega arith)
-same_numbers_lem (x ∷ xs) [] e = let z : ◌≡◌ {A = ℕ} 0 1 = cc in absurd (omega arith)
-same_numbers_lem (x ∷ xs) (y ∷ ys) e =
-    let h = and_true (eqb x y) (same_numbers xs ys) e in
-    let p : x ≡ y = eqb-true x y h.0 in
-    let q : xs ≡ ys = same_numbers_lem xs ys h.1 in
-    cc
+same_numbers_lem xs ys = (bytes_decides xs ys).0
 
 -- of results, by a test of their values
 abbrev pub same_result : {A : Type 0} → (A → A → Bool) → Result A → Result A → Bool
