@@ -2,7 +2,7 @@
 // station. Nothing else is stored between calls; the format is handed in.
 #![tactic(auto)]
 
-ghost use Rattle.std.specs.Prelude.{◌≡◌, length};
+ghost use Rattle.std.specs.Prelude.{◌≡◌};
 ghost use Rattle.stream.specs.Answers.{meaning};
 ghost use Rattle.station.specs.Stations.{station_of};
 ghost use Rattle.station.specs.Receive.{receive};
@@ -11,19 +11,8 @@ ghost use Rattle.table.specs.Claims as claims;
 
 use format::{Format, Refusal};
 use slot::Slot;
-use station::take_turn;
+use station::{Change, Station};
 use stream::Answer;
-
-// The sixteen records of a table, by value.
-fn load(table: &[Slot]) -> [Slot; 16]
-    requires { length table.now ≡ 16 }
-    ensures { result ≡ table.now }
-{
-    [
-        table[0], table[1], table[2], table[3], table[4], table[5], table[6], table[7], table[8],
-        table[9], table[10], table[11], table[12], table[13], table[14], table[15],
-    ]
-}
 
 // Receives an image on a bus, as Station::receive does, with the slots as a lent table. Only the record
 // that the call concerns is stored to, and none where it concerns none: take_turn names it. A table
@@ -37,15 +26,14 @@ pub fn receive(
 ) -> Result<Answer, Refusal>
     ensures { after_in format (meaning result) table.new store.new ≡ receive (station_of format table.old) store.old bus image.now }
 {
-    if table.len() != 16 {
+    let Ok(slots) = <[Slot; 16]>::try_from(&*table) else {
         return Err(Refusal::State);
+    };
+    let turn = Station { format, slots }.take_turn(store, bus, image);
+    if let Some(Change { at, slot }) = turn.change {
+        table[at] = slot;
     }
-    let t = take_turn(format, load(table), store, bus, image);
-    let at = t.at;
-    if at < 16 {
-        table[at] = t.slot;
-    }
-    t.answer
+    turn.answer
 }
 
 // A table of one's own, lent to receive and handed back.
@@ -58,19 +46,15 @@ pub struct Lent {
 // Lends a table of one's own to receive, for a caller that has the table by value, and hands it back.
 pub fn receive_by_value(
     format: Format,
-    table: [Slot; 16],
+    mut table: [Slot; 16],
     store: &mut [u8],
     bus: u8,
     image: &[u8],
 ) -> Lent
     ensures { after_in format (meaning result.answer) result.table store.new ≡ receive (station_of format table) store.old bus image.now }
 {
-    let mut lent = table;
-    let answer = receive(format, &mut lent, store, bus, image);
-    Lent {
-        table: lent,
-        answer: answer,
-    }
+    let answer = receive(format, &mut table, store, bus, image);
+    Lent { table, answer }
 }
 
 // The claims of this crate. It does nothing: its contract ties each claim to its proof.
