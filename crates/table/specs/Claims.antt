@@ -12,7 +12,7 @@ use Rattle.slot.specs.declared.Slot.{Slot}
 use Rattle.slot.specs.Slots.{slot_at}
 use Rattle.slot.specs.Sound.{sound}
 use Rattle.station.specs.declared.Station.{Station}
-use Rattle.station.specs.declared.Received.{Received}
+use Rattle.station.specs.declared.HandedBack.{HandedBack}
 use Rattle.station.specs.Stations.{station_of, full_size}
 use Rattle.station.specs.Receive.{receive, concerned, after}
 use Rattle.station.specs.Run.{Call, Ran, Front, run}
@@ -36,7 +36,7 @@ Meets format table store bus image given =
 unfoldable pub AsFirst : Type 0
 AsFirst =
     (station : Station) (store : List ℕ) (bus : ℕ) (image : List ℕ)
-    → (first : Received) (last : List ℕ) → after first last ≡ receive station store bus image
+    → (first : HandedBack Answer) (last : List ℕ) → after first last ≡ receive station store bus image
     → (answer : Returned Answer) (table : List Slot) (other : List ℕ)
     → Meets station.format station.slots store bus image (record { answer = meaning answer; table = table; store = other })
     → (answer ≡ first.answer) × (table ≡ first.station.slots) × (other ≡ last)
