@@ -2,7 +2,7 @@
 // low byte first, and the layout's number.
 #![tactic(auto)]
 
-ghost use Rattle.std.specs.Prelude.{◌≡◌, true, false, MatchResult, length};
+ghost use Rattle.std.specs.Prelude.{◌≡◌, true, false, IfOk, IfErr, length};
 ghost use Rattle.watch_bytes.specs.States as states;
 ghost use Rattle.watch_bytes.specs.Claims as claims;
 
@@ -34,7 +34,8 @@ fn state_bytes(watch: Watch) -> [u8; State::SIZE]
 // The watch in the bytes, or STATE where they are no watch's.
 #[tactic(auto, unfolding(crate::specs::States::watch_in, crate::specs::States::is_state, words::specs::Words::word_at, format::specs::Tests::all_true, format::specs::Tests::all_after))]
 fn load(state: &[u8]) -> Result<Watch, Refusal>
-    ensures { MatchResult result (λ watch. (states.is_state state.now ≡ true) × (watch ≡ states.watch_in state.now)) (λ name. (states.is_state state.now ≡ false) × (name ≡ Refusal.State)) }
+    ensures watch { IfOk result (λ watch. (states.is_state state.now ≡ true) × (watch ≡ states.watch_in state.now)) }
+    ensures none { IfErr result (λ name. (states.is_state state.now ≡ false) × (name ≡ Refusal.State)) }
 {
     let [a0, a1, a2, a3, b0, b1, b2, b3, State::LAYOUT] = *state else {
         return Err(Refusal::State);

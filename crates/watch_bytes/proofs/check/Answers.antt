@@ -13,26 +13,26 @@ pub returns-in_err-load : goal.returns-in_err-load
 unfolding checking
 returns-in_err-load c =
     let p = err_from_is_err_and c.from_residual.result c.from_residual.ensures.1 in
-    rw (p.1, p.2, c.in_err-load.ensures.1) (no-watch c.args.state.now _ c.in_err-load.ensures.0)
+    rw (p.1, p.2, c.in_err-load.ensures.none.1) (no-watch c.args.state.now _ c.in_err-load.ensures.none.0)
 
 pub copy_from_slice-requires : goal.copy_from_slice-requires
-copy_from_slice-requires c = sized _ c.in_ok-load.ensures.0 ∙ sym c.state_bytes.ensures.nine
+copy_from_slice-requires c = sized _ c.in_ok-load.ensures.watch.0 ∙ sym c.state_bytes.ensures.nine
 
 pub returns-then-resets-ne0 : goal.returns-then-resets-ne0
 unfolding checking
 returns-then-resets-ne0 c =
     let g = c.args in
-    let t = c.check-checked.ensures ∙ ap (λ w. watching.checking w g.time) c.in_ok-load.ensures.1 in
+    let t = c.check-checked.ensures ∙ ap (λ w. watching.checking w g.time) c.in_ok-load.ensures.watch.1 in
     rw (c.copy_from_slice.ensures.after, c.state_bytes.ensures.value, c.resets-resets.ensures)
-    (ap checked_in_bytes t ∙ a-watch g.state.now _ c.in_ok-load.ensures.0)
+    (ap checked_in_bytes t ∙ a-watch g.state.now _ c.in_ok-load.ensures.watch.0)
 
 pub returns-else-resets-ne0 : goal.returns-else-resets-ne0
 unfolding checking
 returns-else-resets-ne0 c =
     let g = c.args in
-    let t = c.check-checked.ensures ∙ ap (λ w. watching.checking w g.time) c.in_ok-load.ensures.1 in
+    let t = c.check-checked.ensures ∙ ap (λ w. watching.checking w g.time) c.in_ok-load.ensures.watch.1 in
     let bytes : Bytes g.state.now = λ i. search rules in
     let none = sym c.resets-resets.ensures ∙ c.if-resets-ne0.false in
-    let same = unreset g.state.now bytes c.in_ok-load.ensures.0 g.time c.check-checked.result t none in
+    let same = unreset g.state.now bytes c.in_ok-load.ensures.watch.0 g.time c.check-checked.result t none in
     ap (watch_bytes_after (Ok c.resets-resets.result)) (sym same)
-    ∙ rw c.resets-resets.ensures (ap checked_in_bytes t ∙ a-watch g.state.now _ c.in_ok-load.ensures.0)
+    ∙ rw c.resets-resets.ensures (ap checked_in_bytes t ∙ a-watch g.state.now _ c.in_ok-load.ensures.watch.0)

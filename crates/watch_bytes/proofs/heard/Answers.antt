@@ -12,7 +12,7 @@ pub returns-in_err-load : goal.returns-in_err-load
 unfolding hearing
 returns-in_err-load c =
     let p = err_from_is_err_and c.from_residual.result c.from_residual.ensures.1 in
-    rw (p.1, p.2, c.in_err-load.ensures.1) (no-watch c.args.state.now _ c.in_err-load.ensures.0)
+    rw (p.1, p.2, c.in_err-load.ensures.none.1) (no-watch c.args.state.now _ c.in_err-load.ensures.none.0)
 
 pub returns-in_err-bus : goal.returns-in_err-bus
 unfolding hearing
@@ -20,18 +20,18 @@ returns-in_err-bus c =
     let g = c.args in
     let p = err_from_is_err_and c.from_residual-in_err-bus.result c.from_residual-in_err-bus.ensures.1 in
     let bytes : Bytes g.state.now = λ i. search rules in
-    let is = c.in_ok-load.ensures.0 in
-    let t = c.heard-heard.ensures ∙ ap (λ w. watching.hearing w g.bus g.time) c.in_ok-load.ensures.1 in
+    let is = c.in_ok-load.ensures.watch.0 in
+    let t = c.heard-heard.ensures ∙ ap (λ w. watching.hearing w g.bus g.time) c.in_ok-load.ensures.watch.1 in
     let same = there g.state.now bytes is g.bus g.time c.heard-heard.result _ t c.in_err-bus.was in
     rw (p.1, p.2) (ap (λ r. watch_bytes_after r g.state.now) (sym c.in_err-bus.was) ∙ ap (watch_bytes_after c.heard-heard.result.answer) (sym same) ∙ ap heard_in_bytes t ∙ a-watch g.state.now _ is)
 
 pub copy_from_slice-requires : goal.copy_from_slice-requires
-copy_from_slice-requires c = sized _ c.in_ok-load.ensures.0 ∙ sym c.state_bytes.ensures.nine
+copy_from_slice-requires c = sized _ c.in_ok-load.ensures.watch.0 ∙ sym c.state_bytes.ensures.nine
 
 pub returns : goal.returns
 unfolding hearing
 returns c =
     let g = c.args in
-    let t = c.heard-heard.ensures ∙ ap (λ w. watching.hearing w g.bus g.time) c.in_ok-load.ensures.1 in
+    let t = c.heard-heard.ensures ∙ ap (λ w. watching.hearing w g.bus g.time) c.in_ok-load.ensures.watch.1 in
     rw (c.copy_from_slice.ensures.after, c.state_bytes.ensures.value)
-    (ap (λ r. watch_bytes_after r (state_bytes c.heard-heard.result.watch)) (sym c.in_ok-bus.was) ∙ ap heard_in_bytes t ∙ a-watch g.state.now _ c.in_ok-load.ensures.0)
+    (ap (λ r. watch_bytes_after r (state_bytes c.heard-heard.result.watch)) (sym c.in_ok-bus.was) ∙ ap heard_in_bytes t ∙ a-watch g.state.now _ c.in_ok-load.ensures.watch.0)
