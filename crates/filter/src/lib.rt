@@ -41,6 +41,7 @@ impl Pair {
     }
 
     // The pair of a row of Table A.1: code 0, mask 0, code 1, mask 1, code 2, mask 2, code 3, mask 3.
+    // A call by name and no From, as docs/CALLS.md names it, and eight bytes alone tell no order.
     #[tactic(auto, unfolding(crate::specs::Filters::row_pair))]
     pub fn from_row(row: [u8; 8]) -> Pair
         ensures { result ≡ row_pair row }
