@@ -57,7 +57,7 @@ pub fn read_record(input: &[u8]) -> Entry
 }
 
 // A line of the listing.
-#[derive(Clone, Copy)]
+#[derive(Clone, Copy, Debug, PartialEq, Eq)]
 pub enum Line {
     Header,
     // A record whose image is a frame, with what receiving it answered.
