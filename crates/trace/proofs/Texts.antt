@@ -15,14 +15,6 @@ use Rattle.trace.specs.Lines.{digits, decimal, field_text, fields_text, bus_name
 use Rattle.format.specs.Refusals.{Result, value, refused}
 use Rattle.stream.specs.Answers.{Reply, packet, kept, filtered}
 
--- a text with a part more is longer by that part
-pub grown : (text part : List ℕ) {after : List ℕ} → after ≡ text ++ part → length after ≡ length text + length part
-grown text part e = ap length e ∙ length-append text part
-
--- two parts, one after the other
-pub and_then : (text a b : List ℕ) {mid after : List ℕ} → mid ≡ text ++ a → after ≡ mid ++ b → after ≡ text ++ (a ++ b)
-and_then text a b p q = q ∙ ap (λ (l : List ℕ). l ++ b) p ∙ append_assoc text a b
-
 -- ---- numbers
 
 appends : AppendsLastDigit digits
@@ -91,7 +83,7 @@ pub broke_short : (broke : Bool) → length (broke_or broke) ≤ 6
 broke_short true = omega arith
 broke_short false = omega arith
 
--- how long they are, for `grind`
+-- for `grind`: how long the parts are, and what a column more pushes
 pub ruleset lengths = (length-append, decimal_length, field_length, bus_short, broke_short, answer_short)
 
 pub ruleset columns = (length-append, field_byte, fields_next, append_assoc, append-nil)

@@ -63,6 +63,7 @@ pub enum Line {
     // A record whose image is a frame, with what receiving it answered.
     Frame {
         ordinal: u64,
+        // As handed in: `write_line` refuses a third bus with FIELD.
         bus: u8,
         fields: Fields,
         flag: Flag,
