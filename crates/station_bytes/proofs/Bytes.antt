@@ -2,45 +2,48 @@
 use Prim.Native.Nat.{ℕ, zero, suc, ◌+◌, ◌*◌, ◌≤◌, ◌<◌}
 use native.Mathlib.Omega.{arith}
 use mathlib.Core.Path.{◌≡◌, refl, ◌∙◌, sym, ap}
-use mathlib.Core.Bool.{Bool, true, false, cond, not, false≢true}
+use mathlib.Core.Logic.{◌≢◌}
+use mathlib.Core.Bool.{Bool, true, false, cond, not}
 use mathlib.Core.List.{List, [], ◌∷◌, ◌++◌, append_assoc}
 use lib.Dec.{eqb}
 use lib.ListN.{length, get_or, set, take, drop, length-append, drop_of_length-le, take-append-drop}
 use lib.Seq.{split_at, set_split, take-add, drop-drop, drop-cons, take_at, drop_at, length-take-le}
-use borrow.Author.Tests.{eqb-true, leb-true}
+use borrow.Author.Tests.{ne_eqb, eqb-true, leb-true}
 use Rattle.copying.specs.Copy.{written, copied}
 use Rattle.copying.proofs.Copying.{all_copied}
 use Rattle.format.specs.declared.Format.{Format}
+use Rattle.format.specs.declared.Format.TheVariants.{Extended, Standard}
 use Rattle.format.specs.Tests.{all_true}
 use Rattle.format.proofs.Tests.{each}
 use Rattle.slot.specs.declared.Slot.{Slot}
 use Rattle.slot.specs.Slots.{closed_slot, open_slot, slot_at}
-use Rattle.slot.specs.Codes.{key_code, clashing}
+use Rattle.slot.specs.Codes.{key_code, codes_from, clashing}
+use Rattle.std.specs.Prelude.{None, Some, Result, Ok, Err}
+use Rattle.std.specs.Result.{result_unwrap_or}
+use Rattle.format.specs.Numbers.{Reads}
+use Rattle.format.specs.declared.NoSuch.{NoSuch}
+use Rattle.std.specs.Bool.{then_some}
 use Rattle.words.specs.Words.{word_bytes, word_at}
 use Rattle.words.proofs.Laws.{written_at, four}
-use Rattle.station_bytes.specs.States.{layout_number, format_number, format_in, format_at, progress_number, progress_from, key_in, first_of, second_of, slot_bytes, slots_bytes, state_bytes, slot_in, slots_from, slot_written, slots_written, station_in, is_state}
-use Rattle.station_bytes.specs.Parts.{records_good, record_codes, Tested, IsThere}
-use Rattle.station_bytes.proofs.Scans.{codes_length, other_end, not_tested, not_good, its-codes, good-tested}
+use Rattle.format.specs.Numbers.{format_number}
+use Rattle.station_bytes.specs.States.{layout_number, format_in, format_at, progress_number, progress_from, key_in, first_of, second_of, slot_bytes, slots_bytes, state_bytes, slot_in, slots_from, slot_written, slots_written, station_in, is_state}
+use Rattle.station_bytes.specs.Parts.{records_good, record_codes, is_station, NoStation}
+use Rattle.station_bytes.proofs.Scans.{not_length, not_format, not_layout, not_tested, not_good, its-codes, good-tested}
 
 -- ---- a number that stands where it is to be written
 
-pub there : (state : List ℕ) → ((i : ℕ) → get_or state i 0 < 256) → (at : ℕ) → at + 4 ≤ length state → (w number : ℕ) → w ≡ word_at state at
-    → IsThere state at number (eqb w number)
+pub there : (state : List ℕ) → ((i : ℕ) → get_or state i 0 < 256) → (at : ℕ) → at + 4 ≤ length state → (number : ℕ) → number ≡ word_at state at
+    → state ≡ copied state at (word_bytes number)
 unfolding written
-there state bytes at h w number e =
-    record {
-      told = ap (λ (x : ℕ). eqb x number) e;
-      same = λ q.
-          let is : word_bytes number ≡ take 4 (drop at state) =
-          ap word_bytes (sym (eqb-true w number q) ∙ e) ∙ written_at state bytes at h in
-          let put = all_copied state at (word_bytes number) (omega (arith, h, four number)) in
-          sym
-          (put ∙ ap (λ (n : ℕ). take at state ++ (word_bytes number ++ drop (at + n) state)) (four number)
-          ∙ ap (λ (x : List ℕ). take at state ++ (x ++ drop (at + 4) state)) is
-          ∙ ap (λ (x : List ℕ). take at state ++ (take 4 (drop at state) ++ x)) (sym (drop-drop 4 at state))
-          ∙ ap (λ (x : List ℕ). take at state ++ x) (take-append-drop 4 (drop at state))
-          ∙ take-append-drop at state);
-    }
+there state bytes at h number e =
+    let is : word_bytes number ≡ take 4 (drop at state) = ap word_bytes e ∙ written_at state bytes at h in
+    let put = all_copied state at (word_bytes number) (omega (arith, h, four number)) in
+    sym
+    (put ∙ ap (λ (n : ℕ). take at state ++ (word_bytes number ++ drop (at + n) state)) (four number)
+    ∙ ap (λ (x : List ℕ). take at state ++ (x ++ drop (at + 4) state)) is
+    ∙ ap (λ (x : List ℕ). take at state ++ (take 4 (drop at state) ++ x)) (sym (drop-drop 4 at state))
+    ∙ ap (λ (x : List ℕ). take at state ++ x) (take-append-drop 4 (drop at state))
+    ∙ take-append-drop at state)
 
 -- ---- what is read back is what was written
 
@@ -196,36 +199,70 @@ module _ (slots : List Slot) (i : ℕ) (h : i < length slots) (r : List ℕ) whe
 
 -- ---- what the test of a state gives
 
-false_not : {A : Type 0} → false ≡ true → A
-false_not e = absurd (false≢true e)
+pub format_in_number : (format : Format) (n : ℕ) → format_number format ≡ n → (n ≤ 1) × (format ≡ format_in n)
+format_in_number Extended n e = (omega (arith, e), rw (← e))
+format_in_number Standard n e = (omega (arith, e), rw (← e))
 
-module _ (state codes : List ℕ) where
+pub none_above_1 : (n : ℕ) → ((format : Format) → ¬ (format_number format ≡ n)) → 1 < n
+none_above_1 zero h = absurd (h Extended refl)
+none_above_1 (suc zero) h = absurd (h Standard refl)
+none_above_1 (suc (suc n)) h = omega arith
+
+-- what is no format's number stands for standard
+pub format_or_standard : (n : ℕ) (r : Result Format NoSuch) → Reads format_number n r → result_unwrap_or r Standard ≡ format_in n
+format_or_standard n (Ok format) h = (format_in_number format n h).1
+format_or_standard zero (Err e) h = absurd (h.1 Extended refl)
+format_or_standard (suc n) (Err e) h = rw (ne_eqb (suc n) 0 (λ q. omega arith))
+
+module _ (state : List ℕ) (bytes : (k : ℕ) → get_or state k 0 < 256) where
+  abbrev refuses : is_station state ≡ false → NoStation state
+  refuses e = record { told = e; same = same_bytes state bytes }
+
   -- the bytes are no state
-  pub tested_none : is_state state ≡ false → length codes ≡ 16 → Tested state false codes
-  tested_none e l =
-      record { told = sym (not_tested state e); same = λ t. false_not (sym e ∙ t); theirs = λ t. false_not t; sixteen = l }
+  pub tested-length : length state ≢ 130 → NoStation state
+  tested-length h = refuses (not_tested state (not_length state h))
 
-  module _ (bytes : (k : ℕ) → get_or state k 0 < 256) (n : length state ≡ 130) (f : other_end state ≡ false) (format : Format) (ef : format ≡ format_at state) (ec : codes ≡ record_codes state 0 16) where
-    size : length codes ≡ 16
-    size = ap length ec ∙ codes_length state 0 16
+  pub tested-format : ((format : Format) → ¬ (format_number format ≡ get_or state 128 0)) → NoStation state
+  tested-format h = refuses (not_tested state (not_format state (none_above_1 (get_or state 128 0) h)))
+
+  pub tested-layout : get_or state 129 0 ≢ layout_number → NoStation state
+  tested-layout h = refuses (not_tested state (not_layout state h))
+
+  module _ (n : length state ≡ 130) (l : get_or state 129 0 ≡ layout_number) (format : Format) (is : format_number format ≡ get_or state 128 0) (codes : List ℕ) where
+    f : get_or state 128 0 ≤ 1
+    f = (format_in_number format _ is).0
+
+    pub tested-its_format : format ≡ format_at state
+    tested-its_format = (format_in_number format _ is).1
 
     -- a record is not good
-    pub tested-bad : false ≡ records_good format state 0 16 → Tested state false codes
-    tested-bad e =
-        record {
-          told = sym (not_good state n f (ap (λ (format : Format). records_good format state 0 16) (sym ef) ∙ sym e));
-          same = same_bytes state bytes;
-          theirs = λ t. false_not t;
-          sixteen = size;
-        }
+    pub tested-bad : None ≡ then_some (records_good format state 0 16) codes → NoStation state
+    tested-bad e = refuses (not_good state n f l (ap (λ (format : Format). records_good format state 0 16) (sym tested-its_format) ∙ go (records_good format state 0 16) e))
+      where
+        go : (b : Bool) → None ≡ then_some b codes → b ≡ false
+        go true e = cc
+        go false e = refl
 
     -- all are
-    pub tested-good : true ≡ records_good format state 0 16 → (hit : Bool) → hit ≡ clashing codes → Tested state (not hit) codes
-    tested-good e hit h =
-        let good = ap (λ (format : Format). records_good format state 0 16) (sym ef) ∙ sym e in
-        record {
-          told = ap not (h ∙ ap clashing ec) ∙ good-tested state n f good;
-          same = same_bytes state bytes;
-          theirs = λ t. ec ∙ its-codes state n f good;
-          sixteen = size;
-        }
+    module _ (e : Some codes ≡ then_some (records_good format state 0 16) (record_codes state 0 16)) where
+      all_good : (records_good format state 0 16 ≡ true) × (codes ≡ record_codes state 0 16)
+      all_good = go (records_good format state 0 16) e
+        where
+          go : (b : Bool) → Some codes ≡ then_some b (record_codes state 0 16) → (b ≡ true) × (codes ≡ record_codes state 0 16)
+          go true e = (refl, (cc))
+          go false e = cc
+
+      good : records_good (format_at state) state 0 16 ≡ true
+      good = ap (λ (format : Format). records_good format state 0 16) (sym tested-its_format) ∙ all_good.0
+
+      told : not (clashing codes) ≡ is_station state
+      told = ap (λ (codes : List ℕ). not (clashing codes)) all_good.1 ∙ good-tested state n f l good
+
+      pub tested-clash : true ≡ clashing codes → NoStation state
+      tested-clash h = refuses (sym told ∙ ap not (sym h))
+
+      pub tested-good : false ≡ clashing codes → is_station state ≡ true
+      tested-good h = sym told ∙ ap not (sym h)
+
+      pub tested-codes : codes ≡ codes_from (slots_from (format_at state) state 0 16) 0
+      tested-codes = all_good.1 ∙ its-codes state n f l good

@@ -7,7 +7,7 @@ use mathlib.Core.Logic.{◌≢◌}
 use mathlib.Core.Bool.{Bool, true, false, cond, false≢true}
 use mathlib.Core.List.{List, [], ◌∷◌, ◌++◌, append_assoc}
 use lib.Dec.{eqb, leb}
-use lib.ListN.{length, get_or, replicate, length-append}
+use lib.ListN.{length, get_or, length-append}
 use lib.Seq.{get_or-append-add}
 use borrow.Author.Tests.{eq-eqb, ne_eqb, eqb-true, leb-true}
 use Rattle.format.specs.declared.Format.{Format}
@@ -35,9 +35,10 @@ use Rattle.stream.specs.Step.{held}
 use Rattle.station.specs.Read.{reading}
 use Rattle.words.specs.Words.{word_bytes, word_at}
 use Rattle.words.proofs.Laws.{read_after, four}
-use Rattle.station_bytes.specs.States.{layout_number, format_number, end_bytes, format_in, format_at, progress_number, progress_from, key_in, first_of, second_of, slot_bytes, slots_bytes, state_bytes, slot_in, slots_from, slot_written, slots_written, station_in, is_state}
+use Rattle.format.specs.Numbers.{format_number}
+use Rattle.station_bytes.specs.States.{layout_number, end_bytes, format_in, format_at, progress_number, progress_from, key_in, first_of, second_of, slot_bytes, slots_bytes, state_bytes, slot_in, slots_from, slot_written, slots_written, station_in, is_state}
 use Rattle.station_bytes.specs.Calls.{read_in}
-use Rattle.station_bytes.specs.Parts.{Tested}
+use Rattle.station_bytes.specs.Parts.{NoStation}
 use Rattle.station_bytes.specs.Claims.{ReadBack, WrittenBack, NotWritten}
 use Rattle.station_bytes.proofs.Bytes.{same_bytes, eight, slots_size}
 use Rattle.station_bytes.proofs.Calling.{receive_state}
@@ -253,28 +254,22 @@ module _ (state : List ℕ) (bytes : Bytes state) (none : (station : Station) �
       go false s = refl
       go true s = absurd (none (station_in state) s (same_bytes state bytes e))
 
-  tested : Tested state false (replicate 16 0)
+  no_station : NoStation state
   unfolding all_true
-  tested =
-      record {
-        told = go (is_state state) refl;
-        same = same_bytes state bytes;
-        theirs = λ e. absurd (false≢true e);
-        sixteen = refl;
-      }
+  no_station = record { told = go (is_state state) refl; same = same_bytes state bytes }
     where
-      go : (b : Bool) → is_state state ≡ b → false ≡ all_true (b ∷ sound_station (station_in state) ∷ [])
+      go : (b : Bool) → is_state state ≡ b → all_true (b ∷ sound_station (station_in state) ∷ []) ≡ false
       go false e = refl
-      go true e = sym (unsound e)
+      go true e = unsound e
 
 pub not_written : NotWritten
 unfolding NotWritten read_in reading guarded
 not_written state bytes none =
-    let t = tested state bytes none in
+    let t = no_station state bytes none in
     record {
-      receives = λ store bus image. sym (receive_state state _ false t refl store bus image);
-      opens = λ key. sym (open_state state _ false t refl key);
-      closes = λ i. sym (close_state state _ false t refl i);
+      receives = λ store bus image. sym (receive_state state t store bus image);
+      opens = λ key. sym (open_state state t key);
+      closes = λ i. sym (close_state state t i);
       reads = λ store i. go store i (is_state state) refl;
     }
   where

@@ -91,7 +91,7 @@ key_standard n =
 abbrev pub tested : Format → (k h : ℕ) → Bool
 tested format k h =
     ((eqb k 1 && eqb h 0)
-    || (eqb k 2 && ((eqb (h % piece_size format) 0 && leb (piece_size format) h) && leb h (most_held format))))
+    || (((eqb k 2 && eqb (h % piece_size format) 0) && leb (piece_size format) h) && leb h (most_held format)))
     || (eqb k 3 && leb h (packet_limit format))
 
 tidy_idle : (b : Bool) → all_true (b ∷ true ∷ []) ≡ ((b || false) || false)

@@ -2,12 +2,12 @@
 use Prim.Native.Nat.{ℕ, zero, suc, ◌+◌, ◌-◌, ◌*◌, ◌<◌, ◌≤◌}
 use native.Mathlib.Omega.{arith}
 use mathlib.Core.Path.{◌≡◌, refl, ◌∙◌, sym, ap}
-use mathlib.Core.Bool.{Bool, true, false, cond, ◌&&◌, ◌||◌, not, false≢true}
+use mathlib.Core.Bool.{Bool, true, false, ◌&&◌, not}
 use mathlib.Core.List.{List, [], ◌∷◌}
-use lib.Dec.{leb, ltb, eqb}
+use lib.Dec.{leb, eqb}
 use lib.ListN.{length, get_or, set}
 use lib.Seq.{paste}
-use borrow.Author.Tests.{eq-eqb, ne_eqb, le-leb, lt-leb, ltb-true, ltb-false}
+use borrow.Author.Tests.{eq-eqb, ne_eqb, le-leb, lt-leb}
 use Rattle.format.specs.declared.Format.{Format}
 use Rattle.format.specs.Tests.{all_true}
 use Rattle.format.proofs.Tests.{each}
@@ -21,8 +21,8 @@ use Rattle.slot.proofs.Rows.{row_next, row_full}
 use Rattle.station.specs.Stations.{sound_station}
 use Rattle.words.specs.Words.{word_at}
 use Rattle.station_bytes.specs.States.{layout_number, format_at, slot_in, slots_from, slot_written, slots_written, station_in, is_state}
-use Rattle.station_bytes.specs.Parts.{key_fits, progress_fits, record_good, records_good, record_code, record_codes}
-use Rattle.station_bytes.proofs.Records.{tidy_open, record_good_lem, record_code_lem}
+use Rattle.station_bytes.specs.Parts.{record_good, records_good, record_code, record_codes, is_station}
+use Rattle.station_bytes.proofs.Records.{tidy_open, record_code_lem}
 
 -- ---- one more turn of the scan
 
@@ -108,19 +108,9 @@ and_both : (a b : Bool) → (a && b) ≡ true → (a ≡ true) × (b ≡ true)
 and_both true b e = (refl, e)
 and_both false b e = let z : false ≡ true = e in (z, cc)
 
-at_most : (m n : ℕ) → leb m n ≡ not (ltb n m)
-at_most m n = go (ltb n m) refl
-  where
-    go : (b : Bool) → ltb n m ≡ b → leb m n ≡ not b
-    go true e = lt-leb m n (ltb-true n m e)
-    go false e = le-leb m n (ltb-false n m e)
-
 module _ (state : List ℕ) where
   abbrev slots : List Slot
   slots = slots_from (format_at state) state 0 16
-
-  abbrev tested : Bool
-  tested = all_true (is_state state ∷ sound_station (station_in state) ∷ [])
 
   none_after : (b : Bool) → is_state state ≡ false → all_true (is_state state ∷ b ∷ []) ≡ false
   unfolding all_true
@@ -130,34 +120,31 @@ module _ (state : List ℕ) where
   unfolding is_state all_true
   not_length h = rw (ne_eqb (length state) 130 h)
 
-  -- the two bytes behind the slots are no format and this layout
-  abbrev pub other_end : Bool
-  other_end = ltb 1 (get_or state 128 0) || not (eqb (get_or state 129 0) layout_number)
-
-  pub not_end : other_end ≡ true → is_state state ≡ false
+  pub not_format : 1 < get_or state 128 0 → is_state state ≡ false
   unfolding is_state all_true
-  not_end e = rw at_most (go (eqb (length state) 130) (ltb 1 (get_or state 128 0)) (eqb (get_or state 129 0) layout_number) e)
+  not_format h = rw (lt-leb (get_or state 128 0) 1 h) (go (eqb (length state) 130))
     where
-      go : (n f l : Bool) → (f || not l) ≡ true → (((n && not f) && l) && slots_written (format_at state) state 0 16) ≡ false
-      go false f l e = refl
-      go true true l e = refl
-      go true false true e = absurd (false≢true e)
-      go true false false e = refl
+      go : (n : Bool) → (((n && false) && eqb (get_or state 129 0) layout_number) && slots_written (format_at state) state 0 16) ≡ false
+      go true = refl
+      go false = refl
 
-  pub not_tested : is_state state ≡ false → tested ≡ false
+  pub not_layout : get_or state 129 0 ≢ layout_number → is_state state ≡ false
+  unfolding is_state all_true
+  not_layout h = rw (ne_eqb (get_or state 129 0) layout_number h) (go (eqb (length state) 130 && leb (get_or state 128 0) 1))
+    where
+      go : (b : Bool) → ((b && false) && slots_written (format_at state) state 0 16) ≡ false
+      go true = refl
+      go false = refl
+
+  pub not_tested : is_state state ≡ false → is_station state ≡ false
   not_tested e = none_after (sound_station (station_in state)) e
 
-  module _ (n : length state ≡ 130) (f : other_end ≡ false) where
+  module _ (n : length state ≡ 130) (f : get_or state 128 0 ≤ 1) (l : get_or state 129 0 ≡ layout_number) where
     is_written : is_state state ≡ slots_written (format_at state) state 0 16
     unfolding is_state all_true
-    is_written = rw (eq-eqb (length state) 130 n, at_most) (go (ltb 1 (get_or state 128 0)) (eqb (get_or state 129 0) layout_number) f)
-      where
-        go : (f l : Bool) → (f || not l) ≡ false → ((not f && l) && slots_written (format_at state) state 0 16) ≡ slots_written (format_at state) state 0 16
-        go true l e = absurd (false≢true (sym e))
-        go false true e = refl
-        go false false e = absurd (false≢true (sym e))
+    is_written = rw (eq-eqb (length state) 130 n, le-leb (get_or state 128 0) 1 f, eq-eqb (get_or state 129 0) layout_number l)
 
-    pub not_good : records_good (format_at state) state 0 16 ≡ false → tested ≡ false
+    pub not_good : records_good (format_at state) state 0 16 ≡ false → is_station state ≡ false
     unfolding all_true sound
     not_good e =
         rw is_written (go (slots_written (format_at state) state 0 16) (slots_sound (format_at state) slots) (eqb (length slots) 16) (keys_differ slots) (sym (records (format_at state) state 0 16) ∙ e))
@@ -174,7 +161,7 @@ module _ (state : List ℕ) where
       pub its-codes : record_codes state 0 16 ≡ codes_from slots 0
       its-codes = codes_same (format_at state) state 0 16 both.0
 
-      pub good-tested : not (clashing (record_codes state 0 16)) ≡ tested
+      pub good-tested : not (clashing (record_codes state 0 16)) ≡ is_station state
       unfolding all_true
       good-tested =
           sym (sound_codes (format_at state) slots (slots_length (format_at state) state 0 16) (record_codes state 0 16) both.1 its-codes)
@@ -183,17 +170,13 @@ module _ (state : List ℕ) where
 -- ---- the loop's own turn: the two numbers of record i are read, tested and coded
 
 module _ (format : Format) (state : List ℕ) (i k p : ℕ) (h : i < 16) (ek : k ≡ word_at state (8 * i)) (ep : p ≡ word_at state (8 * i + 4)) where
-  pub good_next : (good kf pf : Bool) → kf ≡ key_fits format k → pf ≡ progress_fits format p
-      → (good && records_good format state i (16 - i))
-      ≡ ((good && ((eqb p 0 && eqb k 0) || (kf && pf))) && records_good format state (i + 1) (16 - (i + 1)))
-  good_next good kf pf ekf epf =
-      let e = record_good_lem format k p in
-      let turn = good_turn format state i good h in
-      cc
+  pub good_next : (good is_good : Bool) → is_good ≡ record_good format k p
+      → (good && records_good format state i (16 - i)) ≡ ((good && is_good) && records_good format state (i + 1) (16 - (i + 1)))
+  good_next good is_good e = let turn = good_turn format state i good h in cc
 
-  pub code_next : (d : List ℕ) (n v : ℕ) → length d ≡ 16 → n ≡ i → v ≡ cond (eqb p 0) (1073741824 + n) k
+  pub code_next : (d : List ℕ) (v : ℕ) → length d ≡ 16 → v ≡ record_code i k p
       → set (paste d 0 (record_codes state 0 16) i) i v ≡ paste d 0 (record_codes state 0 16) (i + 1)
-  code_next d n v l en ev =
+  code_next d v l ev =
       let z : 0 + i ≡ i = omega arith in
       let there = code_at state 0 16 i h in
       let size = codes_length state 0 16 in

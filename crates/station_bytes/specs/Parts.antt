@@ -1,17 +1,15 @@
 -- FOR PRIVATE CONTRACTS ONLY: no public contract cites these definitions, and they need not be believed.
-use Rattle.std.specs.Prelude.{ℕ, zero, suc, ◌+◌, ◌*◌, ◌≡◌, Bool, true, cond, List, [], ◌∷◌, eqb, length}
+use Rattle.std.specs.Prelude.{ℕ, zero, suc, ◌+◌, ◌*◌, ◌<◌, ◌≡◌, Bool, true, false, cond, List, [], ◌∷◌, eqb}
 use Rattle.format.specs.declared.Format.{Format}
 use Rattle.format.specs.Tests.{all_true}
 use Rattle.slot.specs.Sound.{key_in_range, fits, slot_sound}
-use Rattle.slot.specs.Codes.{key_code, codes_from}
-use Rattle.copying.specs.Copy.{copied}
-use Rattle.frame.specs.Judge.{Frame}
-use Rattle.format.specs.Refusals.{Returned}
-use Rattle.stream.specs.declared.Answer.{Answer}
-use Rattle.stream.specs.Answers.{meaning}
-use Rattle.stream.specs.Step.{step}
-use Rattle.station.specs.Stations.{sound_station, area, with_area}
-use Rattle.words.specs.Words.{word_at, word_bytes}
+use Rattle.slot.specs.Codes.{key_code}
+use Rattle.station.specs.Stations.{sound_station}
+use Rattle.station.specs.Receive.{progress_of}
+use Rattle.station.specs.Open.{is_open}
+use Rattle.slot.specs.declared.Slot.{Slot}
+use Rattle.slot.specs.Slots.{slot_at}
+use Rattle.words.specs.Words.{word_at}
 use Rattle.station_bytes.specs.States.{key_in, progress_from, progress_number, slot_in, slot_written, station_in, state_bytes, is_state}
 
 -- the number of a key in range; of a progress that fits
@@ -38,21 +36,17 @@ unfoldable pub record_codes : List ℕ → (i n : ℕ) → List ℕ
 record_codes state i zero = []
 record_codes state i (suc n) = record_code i (word_at state (8 * i)) (word_at state (8 * i + 4)) ∷ record_codes state (i + 1) n
 
--- whether a number stands at a place already; where it does, writing it changes nothing
-pub record IsThere (state : List ℕ) (at number : ℕ) (r : Bool) : Type 0 where
-  pub told : r ≡ eqb (word_at state at) number
-  pub same : r ≡ true → state ≡ copied state at (word_bytes number)
+-- whether bytes are a sound station's
+abbrev pub is_station : List ℕ → Bool
+is_station state = all_true (is_state state ∷ sound_station (station_in state) ∷ [])
 
--- what is found out of a state's bytes, and the codes then
-pub record Tested (state : List ℕ) (r : Bool) (codes : List ℕ) : Type 0 where
-  pub told : r ≡ all_true (is_state state ∷ sound_station (station_in state) ∷ [])
+-- they are none; those of a station that is not sound are what it writes, too
+pub record NoStation (state : List ℕ) : Type 0 where
+  pub told : is_station state ≡ false
   pub same : is_state state ≡ true → state_bytes (station_in state) ≡ state
-  pub theirs : r ≡ true → codes ≡ codes_from (station_in state).slots 0
-  pub sixteen : length codes ≡ 16
 
--- the stream of slot i steps
-pub record StepsIn (format : Format) (i : ℕ) (frame : Frame) (state store : List ℕ) (answer : Returned Answer) (lastState lastStore : List ℕ) : Type 0 where
-  pub told : meaning answer ≡ (step format (progress_from (word_at state (8 * i + 4))) (area store i) frame).answer
-  pub state' : lastState
-      ≡ copied state (8 * i + 4) (word_bytes (progress_number (step format (progress_from (word_at state (8 * i + 4))) (area store i) frame).progress))
-  pub store' : lastStore ≡ with_area store i (step format (progress_from (word_at state (8 * i + 4))) (area store i) frame).area
+-- the progress of slot i, which is open, and its number
+pub record OpenAt (slots : List Slot) (i number : ℕ) : Type 0 where
+  pub inside : i < 16
+  pub told : is_open slots i ≡ true
+  pub progress : progress_from number ≡ progress_of (slot_at slots i)

@@ -7,6 +7,7 @@ use Rattle.std.specs.Prelude.{ℕ, zero, suc, ◌+◌, ◌*◌, ◌/◌, ◌%◌
 use Rattle.format.specs.declared.Format.{Format}
 use Rattle.format.specs.declared.Format.TheVariants.{Extended, Standard}
 use Rattle.format.specs.declared.Fields.TheVariants as fields
+use Rattle.format.specs.Numbers.{format_number}
 use Rattle.format.specs.Tests.{all_true}
 use Rattle.stream.specs.declared.Progress.{Progress}
 use Rattle.stream.specs.declared.Progress.TheVariants.{Idle, Collecting, Done}
@@ -22,10 +23,6 @@ use Rattle.station.specs.Stations.{station_of}
 use Rattle.words.specs.Words.{word_bytes, word_at}
 
 -- ---- the bytes of a station
-
-abbrev pub format_number : Format → ℕ
-format_number Extended = 0
-format_number Standard = 1
 
 abbrev pub progress_number : Progress → ℕ
 progress_number Idle = 65536

@@ -1,46 +1,51 @@
 -- `station_bytes::open` meets its contract: each refusal in its order, else the lowest closed slot's record is written (Handing).
-use Rattle.std.proofs.Common.{sym, refl, arith}
-use Rattle.station_bytes.proofs.Calling.{sound_of, state_size, key_place}
-use Rattle.station_bytes.proofs.Handing.{open_state, open-field, open-taken, open_full, open-lowest, own_number}
+use Rattle.std.proofs.Common.{◌∙◌, sym}
+use Rattle.std.proofs.lemmas.Result.{err_from_is_err_and}
+use Rattle.station_bytes.proofs.Calling.{sound_of}
+use Rattle.station_bytes.proofs.Handing.{open_state, open-field, open-taken, open_full, open-lowest, out_of_range, in_its_range, refusal-none}
 use Rattle.station_bytes.proofs.open.Goals as goal
 
-pub returns-then-not-sound_codes : goal.returns-then-not-sound_codes
-returns-then-not-sound_codes c = open_state c.args.state.now _ _ c.if-not-sound_codes.ensures refl c.args.key
+pub returns-in_err-sound : goal.returns-in_err-sound
+returns-in_err-sound c =
+    let p = err_from_is_err_and c.from_residual.result c.from_residual.ensures.1 in
+    let e = c.in_err-sound.ensures in
+    rw (p.1, p.2, e.0) (open_state c.args.state.now e.1 c.args.key)
 
-pub bounds-state-128 : goal.bounds-state-128
-bounds-state-128 c =
-    let state = c.args.state.now in omega (arith, state_size state _ (sound_of state _ _ c.if-not-sound_codes.ensures refl))
+pub returns-in_err-number : goal.returns-in_err-number
+returns-in_err-number c =
+    let p = err_from_is_err_and c.from_residual-in_err-number.result c.from_residual-in_err-number.ensures.1 in
+    let e = c.in_err-number.ensures in
+    let s = c.in_ok-sound.sound in
+    let q = c.in_ok-sound.ensures in
+    let f = rw q at s.its_format in
+    rw (p.1, p.2, refusal-none _ _ _ e.value e.ok_part)
+    (open-field c.args.state.now (sound_of s.is_station s.same q) c.args.key (rw f at (out_of_range _ _ _ c.key_number.ensures e.ok_part)))
 
-pub returns-then-not-key_in_range : goal.returns-then-not-key_in_range
-returns-then-not-key_in_range c =
-    let a = c.args in
-    open-field a.state.now _ (sound_of a.state.now _ _ c.if-not-sound_codes.ensures refl) a.key
-    (rw (sym c.format_of-format.ensures) (sym c.if-not-key_in_range.ensures))
+pub returns-then-is_some : goal.returns-then-is_some
+returns-then-is_some c =
+    let s = c.in_ok-sound.sound in
+    let q = c.in_ok-sound.ensures in
+    let f = rw q at s.its_format in
+    let r = in_its_range _ _ _ _ c.key_number.ensures c.in_ok-number.ensures.ok_part in
+    open-taken c.args.state.now (sound_of s.is_station s.same q) c.args.key (rw f at r.0) _ (rw q at c.find.ensures.found) (sym c.if-is_some.ensures)
 
-pub returns-then-find_key-lt16 : goal.returns-then-find_key-lt16
-returns-then-find_key-lt16 c =
-    let a = c.args in
-    let sound = sound_of a.state.now _ _ c.if-not-sound_codes.ensures refl in
-    open-taken a.state.now _ sound a.key (rw (sym c.format_of-format.ensures) (sym c.if-not-key_in_range.ensures)) c.find_key.result
-    (key_place a.state.now _ sound a.key c.find_key.result (rw (sym c.format_of-format.ensures) c.find_key.ensures)) c.if-find_key-lt16.true
-
-pub first_closed-i-requires : goal.first_closed-i-requires
-first_closed-i-requires c =
-    let state = c.args.state.now in state_size state _ (sound_of state _ _ c.if-not-sound_codes.ensures refl)
-
-pub returns-then-i-ge16 : goal.returns-then-i-ge16
-returns-then-i-ge16 c =
-    let a = c.args in
-    let sound = sound_of a.state.now _ _ c.if-not-sound_codes.ensures refl in
-    open_full a.state.now _ sound a.key (rw (sym c.format_of-format.ensures) (sym c.if-not-key_in_range.ensures)) c.find_key.result
-    (key_place a.state.now _ sound a.key c.find_key.result (rw (sym c.format_of-format.ensures) c.find_key.ensures)) c.if-find_key-lt16.false _
-    (c.first_closed-i.ensures _) c.if-i-ge16.true
+pub returns-in_err-i : goal.returns-in_err-i
+returns-in_err-i c =
+    let p = err_from_is_err_and c.from_residual-in_err-i.result c.from_residual-in_err-i.ensures.1 in
+    let e = c.in_err-i.ensures in
+    let s = c.in_ok-sound.sound in
+    let q = c.in_ok-sound.ensures in
+    let f = rw q at s.its_format in
+    let r = in_its_range _ _ _ _ c.key_number.ensures c.in_ok-number.ensures.ok_part in
+    rw (p.1, p.2, refusal-none _ _ _ e.value e.ok_part)
+    (open_full c.args.state.now (sound_of s.is_station s.same q) c.args.key (rw f at r.0) _ (rw q at c.find.ensures.found) (sym c.if-is_some.ensures)
+    (sym e.ok_part ∙ rw q at c.first_closed.ensures.found))
 
 pub returns : goal.returns
 returns c =
-    let a = c.args in
-    let sound = sound_of a.state.now _ _ c.if-not-sound_codes.ensures refl in
-    let ranged = sym c.if-not-key_in_range.ensures in
-    open-lowest a.state.now _ sound a.key (rw (sym c.format_of-format.ensures) ranged) c.find_key.result
-    (key_place a.state.now _ sound a.key c.find_key.result (rw (sym c.format_of-format.ensures) c.find_key.ensures)) c.if-find_key-lt16.false _
-    (c.first_closed-i.ensures _) c.if-i-ge16.false _ _ (own_number _ a.key _ ranged c.key_number.ensures) c.put_record.ensures
+    let s = c.in_ok-sound.sound in
+    let q = c.in_ok-sound.ensures in
+    let f = rw q at s.its_format in
+    let r = in_its_range _ _ _ _ c.key_number.ensures c.in_ok-number.ensures.ok_part in
+    open-lowest c.args.state.now (sound_of s.is_station s.same q) c.args.key (rw f at r.0) _ (rw q at c.find.ensures.found) (sym c.if-is_some.ensures)
+    _ (sym c.in_ok-i.ensures.ok_part ∙ rw q at c.first_closed.ensures.found) _ _ r.1 (rw c.progress_number.ensures at c.write.ensures)

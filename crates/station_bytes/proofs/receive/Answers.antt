@@ -1,74 +1,77 @@
 -- `station_bytes::receive` meets its contract: each refusal in its order, else the slot of the frame's key steps (Calling).
-use Rattle.std.proofs.Common.{ℕ, ◌≡◌, List, ◌∙◌, ap, sym, refl, arith}
-use Rattle.frame.specs.declared.Head.{Head}
-use Rattle.std.specs.Prelude.{Ok}
-use Rattle.frame.specs.Judge.{meaning, judge}
-use Rattle.format.specs.Refusals.{value}
-use Rattle.format.specs.declared.Format.{Format}
-use Rattle.station.specs.Receive.{key_of}
-use Rattle.station.specs.Parts.{frame_of}
+use Rattle.std.proofs.Common.{◌∙◌, ap, sym, arith}
+use Rattle.std.proofs.lemmas.Result.{err_from_is_err_and}
 use Rattle.frame.proofs.Judged.{sound_image}
-use Rattle.station_bytes.proofs.Calling.{sound_of, state_size, receive_state, receive-store, receive-field, receive-image, receive-none, receive-step, key_place}
+use Rattle.station_bytes.proofs.Calling.{sound_of, size, receive_state, receive-store, receive-field, receive-image, receive-none, not-refused, receive-step}
+use Rattle.station_bytes.specs.States.{progress_from}
+use Rattle.station_bytes.proofs.Bytes.{there}
 use Rattle.station_bytes.proofs.receive.Goals as goal
 
--- the image is a frame of the state's format
-as-judged : {format format' : Format} (image : List ℕ) {head : Head} → format ≡ format' → meaning (Ok head) image ≡ judge format image
-    → value (record { frame = frame_of head image; start = head.start }) ≡ judge format' image
-as-judged image ef e = e ∙ ap (λ (format : Format). judge format image) ef
-
-pub returns-then-not-sound_codes : goal.returns-then-not-sound_codes
-returns-then-not-sound_codes c =
-    let a = c.args in receive_state a.state.now _ _ c.if-not-sound_codes.ensures refl a.store.now a.bus a.image.now
+pub returns-in_err-sound : goal.returns-in_err-sound
+returns-in_err-sound c =
+    let p = err_from_is_err_and c.from_residual.result c.from_residual.ensures.1 in
+    let e = c.in_err-sound.ensures in
+    rw (p.1, p.2, e.0) (receive_state c.args.state.now e.1 c.args.store.now c.args.bus c.args.image.now)
 
 pub returns-then-store-ne-SIZE : goal.returns-then-store-ne-SIZE
 returns-then-store-ne-SIZE c =
-    let a = c.args in
-    receive-store a.state.now _ (sound_of a.state.now _ _ c.if-not-sound_codes.ensures refl) a.store.now a.bus a.image.now
-    c.if-store-ne-SIZE.true
+    let s = c.in_ok-sound.sound in
+    receive-store c.args.state.now (sound_of s.is_station s.same c.in_ok-sound.ensures) c.args.store.now c.args.bus c.args.image.now c.if-store-ne-SIZE.true
 
 pub returns-then-bus-gt1 : goal.returns-then-bus-gt1
 returns-then-bus-gt1 c =
-    let a = c.args in
-    receive-field a.state.now _ (sound_of a.state.now _ _ c.if-not-sound_codes.ensures refl) a.store.now a.bus a.image.now
-    c.if-store-ne-SIZE.false c.if-bus-gt1.true
+    let s = c.in_ok-sound.sound in
+    receive-field c.args.state.now (sound_of s.is_station s.same c.in_ok-sound.ensures) c.args.store.now c.args.bus c.args.image.now c.if-store-ne-SIZE.false
+    c.if-bus-gt1.true
 
-pub bounds-state-128 : goal.bounds-state-128
-bounds-state-128 c =
-    let state = c.args.state.now in omega (arith, state_size state _ (sound_of state _ _ c.if-not-sound_codes.ensures refl))
+pub returns-in_err-head : goal.returns-in_err-head
+returns-in_err-head c =
+    let p = err_from_is_err_and c.from_residual-in_err-head.result c.from_residual-in_err-head.ensures.1 in
+    let s = c.in_ok-sound.sound in
+    let q = c.in_ok-sound.ensures in
+    rw (p.1, p.2)
+    (receive-image c.args.state.now (sound_of s.is_station s.same q) c.args.store.now c.args.bus c.args.image.now c.if-store-ne-SIZE.false
+    c.if-bus-gt1.false _ (rw q at s.its_format) _ c.in_err-head.ensures)
 
-pub returns-then-i-ge16 : goal.returns-then-i-ge16
-returns-then-i-ge16 c =
-    let a = c.args in
-    let sound = sound_of a.state.now _ _ c.if-not-sound_codes.ensures refl in
-    let head = c.in-Ok.head in
-    let judged = as-judged a.image.now c.format_of-format.ensures c.in-Ok.ensures in
-    receive-none a.state.now _ sound a.store.now a.bus a.image.now c.if-store-ne-SIZE.false c.if-bus-gt1.false _ judged _
-    (key_place a.state.now _ sound (key_of a.bus (frame_of head a.image.now)) c.find_key-i.result
-    (rw (sym c.format_of-format.ensures) c.find_key-i.ensures))
-    c.if-i-ge16.true
+pub returns-in_default : goal.returns-in_default
+returns-in_default c =
+    let s = c.in_ok-sound.sound in
+    let q = c.in_ok-sound.ensures in
+    receive-none c.args.state.now (sound_of s.is_station s.same q) c.args.store.now c.args.bus c.args.image.now c.if-store-ne-SIZE.false
+    c.if-bus-gt1.false _ (rw q at s.its_format) _ c.in_ok-head.ensures (rw q at c.in_default.ensures.found)
 
-pub step_at-requires : goal.step_at-requires
-step_at-requires c =
-    let a = c.args in
-    let sound = sound_of a.state.now _ _ c.if-not-sound_codes.ensures refl in
-    let judged = as-judged a.image.now c.format_of-format.ensures c.in-Ok.ensures in
-    let n = sound_image _ a.image.now _ (sym judged) in
-    (c.if-i-ge16.false, state_size a.state.now _ sound, c.if-store-ne-SIZE.false, n.starts, n.most)
+pub slice_bounds-step_area-count : goal.slice_bounds-step_area-count
+slice_bounds-step_area-count c = (sound_image _ c.args.image.now _ (sym c.in_ok-head.ensures)).starts
 
-pub returns-in-Err : goal.returns-in-Err
-returns-in-Err c =
-    let a = c.args in
-    receive-image a.state.now _ (sound_of a.state.now _ _ c.if-not-sound_codes.ensures refl) a.store.now a.bus a.image.now
-    c.if-store-ne-SIZE.false c.if-bus-gt1.false c.in-Err.name
-    (c.in-Err.ensures ∙ ap (λ (format : Format). judge format a.image.now) c.format_of-format.ensures)
+pub slice_bounds-step_area-start : goal.slice_bounds-step_area-start
+slice_bounds-step_area-start c = (sound_image _ c.args.image.now _ (sym c.in_ok-head.ensures)).starts
 
-pub returns-else-i-ge16 : goal.returns-else-i-ge16
-returns-else-i-ge16 c =
-    let a = c.args in
-    let sound = sound_of a.state.now _ _ c.if-not-sound_codes.ensures refl in
-    let head = c.in-Ok.head in
-    let judged = as-judged a.image.now c.format_of-format.ensures c.in-Ok.ensures in
-    receive-step a.state.now _ sound a.store.now a.bus a.image.now c.if-store-ne-SIZE.false c.if-bus-gt1.false _ judged _
-    (key_place a.state.now _ sound (key_of a.bus (frame_of head a.image.now)) c.find_key-i.result
-    (rw (sym c.format_of-format.ensures) c.find_key-i.ensures))
-    c.if-i-ge16.false _ c.format_of-format.ensures _ _ _ c.step_at.ensures
+pub returns-in_err-next : goal.returns-in_err-next
+returns-in_err-next c =
+    let s = c.in_ok-sound.sound in
+    let q = c.in_ok-sound.ensures in
+    absurd
+    (not-refused c.args.state.now (sound_of s.is_station s.same q) c.args.store.now c.args.bus c.args.image.now c.if-store-ne-SIZE.false
+    c.if-bus-gt1.false _ (rw q at s.its_format) _ c.in_ok-head.ensures _ (rw q at c.in-Some.ensures.found) _
+    (c.progress_of-progress.ensures ∙ ap progress_from (rw q at (ap (λ r. r.progress) c.record_at-held.ensures))) _ c.in_err-next.ensures.stepped)
+
+pub returns-then-number-held : goal.returns-then-number-held
+returns-then-number-held c =
+    let s = c.in_ok-sound.sound in
+    let q = c.in_ok-sound.ensures in
+    receive-step c.args.state.now (sound_of s.is_station s.same q) c.args.store.now c.args.bus c.args.image.now c.if-store-ne-SIZE.false
+    c.if-bus-gt1.false _ (rw q at s.its_format) _ c.in_ok-head.ensures _ (rw q at c.in-Some.ensures.found) _
+    (c.progress_of-progress.ensures ∙ ap progress_from (rw q at (ap (λ r. r.progress) c.record_at-held.ensures))) _ _ c.in_ok-next.ensures.stepped
+    _ c.progress_number-number.ensures _ c.put_word.ensures
+
+pub returns-else-number-held : goal.returns-else-number-held
+returns-else-number-held c =
+    let s = c.in_ok-sound.sound in
+    let q = c.in_ok-sound.ensures in
+    let held = rw q at (ap (λ r. r.progress) c.record_at-held.ensures) in
+    receive-step c.args.state.now (sound_of s.is_station s.same q) c.args.store.now c.args.bus c.args.image.now c.if-store-ne-SIZE.false
+    c.if-bus-gt1.false _ (rw q at s.its_format) _ c.in_ok-head.ensures _ (rw q at c.in-Some.ensures.found) _
+    (c.progress_of-progress.ensures ∙ ap progress_from held) _ _ c.in_ok-next.ensures.stepped
+    _ c.progress_number-number.ensures _
+    (there c.args.state.now (rw q at s.bytes) _ (omega (arith, size c.args.state.now (sound_of s.is_station s.same q), c.in-Some.ensures.within)) _
+    (c.if-number-held.false ∙ held))
