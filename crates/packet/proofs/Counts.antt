@@ -1,6 +1,6 @@
 -- How many pieces there are, over the piece size z.
 use Prim.Native.Nat.{ℕ, zero, suc, ◌+◌, ◌-◌, ◌*◌, ◌/◌, ◌%◌, ◌≤◌, ◌<◌, min}
-use mathlib.Core.Path.{◌≡◌, sym, ap, ◌∙◌}
+use mathlib.Core.Path.{◌≡◌}
 use mathlib.Core.List.{List}
 use native.Mathlib.Nat.{mul-suc, suc-mul, mul_comm, mod-lt, mul-le-mul_left, div-add-mod'}
 use native.Mathlib.Omega.{arith}
@@ -9,7 +9,7 @@ use Rattle.std.proofs.lemmas.List.{take_min}
 use Rattle.format.specs.declared.Format.{Format}
 use Rattle.format.specs.declared.Format.TheVariants.{Extended, Standard}
 use Rattle.format.specs.Formats.{piece_size}
-use Rattle.format.proofs.Limits.{some_bytes, eight_bytes}
+use Rattle.format.proofs.Limits.{some_bytes, eight_bytes, most_bytes}
 use borrow.Author.Tests.{lt-leb, le-leb}
 use Rattle.packet.specs.Split.{count_of, piece_bytes}
 
@@ -49,18 +49,14 @@ module _ (z : ℕ) (packet : List ℕ) (k : ℕ) where
   unfolding piece_bytes
   bytes_several h = rw (lt-leb _ _ h)
 
-  -- the last piece has what is left
-  pub bytes_between : 8 < length packet → z * k ≤ length packet
-      → take (min (length packet) (z * k + z) - z * k) (drop (z * k) packet) ≡ piece_bytes z packet k
-  bytes_between h l =
-      let e : min (length packet) (z * k + z) - z * k ≡ min z (length (drop (z * k) packet)) = omega (arith, length-drop (z * k) packet) in
-      ap (λ m. take m (drop (z * k) packet)) e ∙ take_min z (drop (z * k) packet) ∙ sym (bytes_several h)
-
 -- piece k begins within the packet
 pub within_packet : (format : Format) (packet : List ℕ) (k : ℕ) → k < count_of (piece_size format) (length packet) → 8 < length packet
     → piece_size format * k ≤ length packet
 within_packet format packet k index long =
     let h = (several (piece_size format) (length packet) (some_bytes format) (eight_bytes format) long).within k index in omega arith
+
+-- what the code needs of the place of piece k
+pub ruleset begins = (arith, within_packet, eight_bytes, most_bytes, length-drop, take_min)
 
 -- the quotient rounded up, as the code has it
 pub rounded_up : (format : Format) (n : ℕ) → n / piece_size format + min 1 (n % piece_size format) ≡ (n + (piece_size format - 1)) / piece_size format

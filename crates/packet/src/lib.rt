@@ -44,6 +44,7 @@ fn flag_at(count: usize, k: usize) -> Flag
 }
 
 // The packet bytes of piece k.
+#[tactic(auto, using(crate::proofs::Counts::begins), unfolding(crate::specs::Split::piece_bytes))]
 fn bytes_at(format: Format, packet: &[u8], k: usize) -> &[u8]
     requires { (length packet.now ≤ packet_limit format) × (k < count_of (piece_size format) (length packet.now)) }
     ensures { result.now ≡ piece_bytes (piece_size format) packet.now k }
@@ -58,8 +59,8 @@ fn bytes_at(format: Format, packet: &[u8], k: usize) -> &[u8]
 
 // Writes the first m of head over the output from its start. The lengths that a header has are told
 // apart, so that the compiler moves a few bytes, where it would call memcpy for any length.
-fn put_head(head: &[u8], m: usize, output: &mut [u8])
-    requires { m ≤ length head.now }
+fn put_head(head: &[u8; 6], m: usize, output: &mut [u8])
+    requires { m ≤ 6 }
     ensures { output.new ≡ copied output.old 0 (take m head.now) }
 {
     match m {
@@ -71,8 +72,9 @@ fn put_head(head: &[u8], m: usize, output: &mut [u8])
 }
 
 // Writes the first m of head and then bytes over the output from its start.
-fn put(head: &[u8], m: usize, bytes: &[u8], output: &mut [u8])
-    requires { (m ≤ length head.now) × (m + length bytes.now ≤ length output.old) }
+#[tactic(auto, using(crate::proofs::Writing::then))]
+fn put(head: &[u8; 6], m: usize, bytes: &[u8], output: &mut [u8])
+    requires { (m ≤ 6) × (m + length bytes.now ≤ length output.old) }
     ensures { output.new ≡ over (take m head.now ++ bytes.now) output.old }
 {
     put_head(head, m, output);
