@@ -249,11 +249,3 @@ from_length station store i h (refused n) e q = let z : ◌≡◌ {A = ℕ} 0 1 
 
 pub has_length : (station : Station) (store : List ℕ) (i h : ℕ) → value h ≡ length_of (reading station store i) → Readable station store i h
 has_length station store i h q = from_length station store i h (reading station store i) refl q
-
--- and a refusal has an empty part
-no_part : (n : ℕ) (r : Result (List ℕ)) → refused n ≡ length_of r → part_of r ≡ []
-no_part n (value bytes) e = let z : ◌≡◌ {A = ℕ} 0 1 = cc in absurd (omega arith)
-no_part n (refused m) e = refl
-
-pub has_none : (station : Station) (store : List ℕ) (i n : ℕ) → refused n ≡ length_of (reading station store i) → [] ≡ part_of (reading station store i)
-has_none station store i n e = sym (no_part n (reading station store i) e)

@@ -15,7 +15,7 @@ use Rattle.format.specs.declared.Format.{Format}
 use Rattle.format.specs.declared.Refusal.{Refusal}
 use Rattle.format.specs.declared.Refusal.TheVariants.{Field, Store, Closed, State, Surplus}
 use Rattle.format.specs.Refusals.{Returned, check, Result, value, refused, number, Check, guarded, checked_then}
-use Rattle.format.proofs.Checks.{stop, pass, none_left, stop_then, pass_then, none_left_then, passed, passed_then}
+use Rattle.format.proofs.Checks.{pass, none_left, stop_then, pass_then, none_left_then, passed, passed_then}
 use Rattle.frame.specs.declared.Head.{Head}
 use Rattle.frame.specs.Judge as verdicts
 use Rattle.frame.specs.Judge.{Frame, Judged, judge}
@@ -128,31 +128,19 @@ offered_is : (format : Format) (progress : Progress) (part : List ℕ) (frame : 
 unfolding offered step guarded
 offered_is format progress part frame l b = rw (eq-eqb (length part) 2048 l, le-leb (length frame.bytes) 8 b)
 
-module _ (format : Format) (progress : Progress) (store : List ℕ) (i : ℕ) (frame : Frame) where
-  pub step_slot : 16 ≤ i → refused (number Closed) ≡ area_step format progress store i frame
-  step_slot h = stop Closed _ _ (le-ltb _ _ h)
+-- where it steps
+module _ (format : Format) (progress : Progress) (store : List ℕ) (i : ℕ) (frame : Frame) (h : i < 16) (w : length store ≡ 32768) (b : length frame.bytes ≤ 8) where
+  pub steps : value (step_in format progress store i frame) ≡ area_step format progress store i frame
+  steps = pass Closed _ _ (lt-ltb _ _ h) (pass Store _ _ (eq-eqb _ _ w) (pass Surplus _ _ (le-leb _ _ b) (none_left _)))
 
-  module _ (h : i < 16) where
-    pub step_store : length store ≢ 32768 → refused (number Store) ≡ area_step format progress store i frame
-    step_store w = pass Closed _ _ (lt-ltb _ _ h) (stop Store _ _ (ne_eqb _ _ w))
-
-    module _ (w : length store ≡ 32768) where
-      pub step_surplus : 8 < length frame.bytes → refused (number Surplus) ≡ area_step format progress store i frame
-      step_surplus b = pass Closed _ _ (lt-ltb _ _ h) (pass Store _ _ (eq-eqb _ _ w) (stop Surplus _ _ (lt-leb _ _ b)))
-
-      -- and where it steps
-      module _ (b : length frame.bytes ≤ 8) where
-        pub steps : value (step_in format progress store i frame) ≡ area_step format progress store i frame
-        steps = pass Closed _ _ (lt-ltb _ _ h) (pass Store _ _ (eq-eqb _ _ w) (pass Surplus _ _ (le-leb _ _ b) (none_left _)))
-
-        pub lent_on : (next : Stepped) (new part : List ℕ) → part ≡ area store i → next_of next new ≡ offered format progress part frame.flag frame.number frame.bytes
-            → next_of next (put_mid (2048 * i) (2048 * i + 2048 - 2048 * i) store new) ≡ step_in format progress store i frame
-        unfolding area step_in
-        lent_on next new part q e =
-            let made : next_of next new ≡ step format progress (area store i) frame =
-            e ∙ ap (λ (x : List ℕ). offered format progress x frame.flag frame.number frame.bytes) q
-            ∙ offered_is format progress (area store i) frame (area_length 2048 16 store w i h) b in
-            rw (put_is store new i) (ap (λ (n : Next). record { answer = n.answer; progress = n.progress; area = with_area store i n.area }) made)
+  pub lent_on : (next : Stepped) (new part : List ℕ) → part ≡ area store i → next_of next new ≡ offered format progress part frame.flag frame.number frame.bytes
+      → next_of next (put_mid (2048 * i) (2048 * i + 2048 - 2048 * i) store new) ≡ step_in format progress store i frame
+  unfolding area step_in
+  lent_on next new part q e =
+      let made : next_of next new ≡ step format progress (area store i) frame =
+      e ∙ ap (λ (x : List ℕ). offered format progress x frame.flag frame.number frame.bytes) q
+      ∙ offered_is format progress (area store i) frame (area_length 2048 16 store w i h) b in
+      rw (put_is store new i) (ap (λ (n : Next). record { answer = n.answer; progress = n.progress; area = with_area store i n.area }) made)
 
 -- the checks say the same of what is guarded by them
 refuses_alike : {A B : Type 0} (checks : List Check) (x : A) (y : B) (n : ℕ) → refused n ≡ guarded checks x → refused n ≡ guarded checks y

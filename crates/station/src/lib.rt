@@ -21,14 +21,14 @@ mod turn;
 
 pub use turn::{Change, Turn};
 
-#[derive(Clone, Copy)]
+#[derive(Clone, Copy, Debug, PartialEq, Eq)]
 pub struct Station {
     pub format: Format,
     pub slots: [Slot; 16],
 }
 
 // The bytes lent to a station: an area for each slot.
-#[derive(Clone, Copy)]
+#[derive(Clone, Copy, Debug, PartialEq, Eq)]
 pub struct Store;
 
 impl Store {
@@ -36,7 +36,7 @@ impl Store {
 }
 
 // What a call hands back: the next station, and the answer or a refusal.
-#[derive(Clone, Copy)]
+#[derive(Clone, Copy, Debug, PartialEq, Eq)]
 pub struct HandedBack<T> {
     pub station: Station,
     pub answer: Result<T, Refusal>,
@@ -62,6 +62,7 @@ pub fn open_slot(key: Key, progress: Progress) -> Slot
 
 // A stream steps on the bytes of a frame with that head: the area of slot i is lent on. Refuses, and changes nothing:
 // CLOSED for a slot number over 15, STORE, SURPLUS for more than 8 bytes.
+#[tactic(auto, unfolding(format::specs::Refusals::guarded))]
 pub fn step_area(
     format: Format,
     progress: Progress,
@@ -108,6 +109,7 @@ impl Station {
 
     // The head of an image and where its key is open; or STATE, STORE, FIELD, then the image's own refusal.
     // An image that is refused is given some key, so that one search tells in any case whether the slots are sound.
+    #[tactic(auto, unfolding(format::specs::Refusals::checked_then))]
     fn let_in(&self, store: &[u8], bus: u8, image: &[u8]) -> Result<(Head, Option<usize>), Refusal>
         ensures { LetIn self.now store.now bus image.now result }
     {
@@ -203,6 +205,7 @@ impl Station {
     }
 
     // The lowest closed slot, for a key that can be opened; or STATE, FIELD, TAKEN, FULL.
+    #[tactic(auto, unfolding(format::specs::Refusals::guarded))]
     fn vacancy(&self, key: Key) -> Result<usize, Refusal>
         ensures { meaning result ≡ handing.vacancy self.now key }
     {
@@ -225,6 +228,7 @@ impl Station {
     }
 
     // The number of a slot that is open; or STATE, CLOSED.
+    #[tactic(auto, unfolding(format::specs::Refusals::guarded))]
     fn occupied(&self, i: usize) -> Result<usize, Refusal>
         ensures { meaning result ≡ handing.occupied self.now i }
     {
@@ -244,6 +248,7 @@ impl Station {
 
     // The length of the packet of a slot that is done, or a refusal: STATE, STORE, CLOSED,
     // NOPACKET.
+    #[tactic(auto, unfolding(format::specs::Refusals::guarded, crate::specs::Read::reading))]
     pub fn read_length(self, store: &[u8], i: usize) -> Result<usize, Refusal>
         ensures { meaning result ≡ length_of (reading self store.now i) }
     {

@@ -6,7 +6,7 @@ use slot::Slot;
 use stream::Answer;
 
 // The slot that a turn concerns, by its number, and what it becomes.
-#[derive(Clone, Copy)]
+#[derive(Clone, Copy, Debug, PartialEq, Eq)]
 pub struct Change {
     pub at: usize,
     pub slot: Slot,
@@ -14,7 +14,7 @@ pub struct Change {
 }
 
 // One receiving turn over the bare slots: what changes, if a slot is concerned, and the answer.
-#[derive(Clone, Copy)]
+#[derive(Clone, Copy, Debug, PartialEq, Eq)]
 pub struct Turn {
     pub change: Option<Change>,
     pub answer: Result<Answer, Refusal>,

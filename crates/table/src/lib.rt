@@ -37,7 +37,7 @@ pub fn receive(
 }
 
 // A table of one's own, lent to receive and handed back.
-#[derive(Clone, Copy)]
+#[derive(Clone, Copy, Debug, PartialEq, Eq)]
 pub struct Lent {
     pub table: [Slot; 16],
     pub answer: Result<Answer, Refusal>,

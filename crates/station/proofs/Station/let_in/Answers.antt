@@ -14,18 +14,6 @@ returns-in_err-place c =
     let p = err_from_is_err_and c.from_residual.result c.from_residual.ensures.1 in
     rw (p.1, p.2) (in_state a.self.now a.store.now a.bus a.image.now _ _ (sym c.in_err-place.was ∙ c.seek.ensures))
 
-pub returns-then-store-ne-SIZE : goal.returns-then-store-ne-SIZE
-returns-then-store-ne-SIZE c =
-    let a = c.args in
-    let f = sought_found _ _ _ _ (sym c.in_ok-place.was ∙ c.seek.ensures) in
-    in_store a.self.now a.store.now a.bus a.image.now f.0 c.if-store-ne-SIZE.true
-
-pub returns-then-bus-gt1 : goal.returns-then-bus-gt1
-returns-then-bus-gt1 c =
-    let a = c.args in
-    let f = sought_found _ _ _ _ (sym c.in_ok-place.was ∙ c.seek.ensures) in
-    in_field a.self.now a.store.now a.bus a.image.now f.0 (omega arith) (omega arith)
-
 pub returns-in_err-judged : goal.returns-in_err-judged
 returns-in_err-judged c =
     let a = c.args in

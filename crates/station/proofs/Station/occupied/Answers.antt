@@ -5,9 +5,6 @@ use Rattle.slot.specs.Slots.{is_closed}
 use Rattle.station.proofs.Handing.{sixteen, close_state, close_closed, close_open, stream_open, none_open}
 use Rattle.station.proofs.Station.occupied.Goals as goal
 
-pub returns-then-not-sound : goal.returns-then-not-sound
-returns-then-not-sound c = close_state c.args.self.now c.args.i (sym c.sound.ensures ∙ c.if-not-sound.true)
-
 pub returns-in_err-ok_or : goal.returns-in_err-ok_or
 returns-in_err-ok_or c =
     let s = c.args.self.now in

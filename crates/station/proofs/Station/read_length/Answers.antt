@@ -5,13 +5,6 @@ use Rattle.station.specs.Read.{is_done}
 use Rattle.station.proofs.Handing.{sixteen, stream_open, none_open, not_done, read_state, read-store, read-closed, read_none, readable, read_done}
 use Rattle.station.proofs.Station.read_length.Goals as goal
 
-pub returns-then-not-sound : goal.returns-then-not-sound
-returns-then-not-sound c = read_state c.args.self c.args.store.now c.args.i (sym c.sound.ensures ∙ c.if-not-sound.true)
-
-pub returns-then-store-ne-SIZE : goal.returns-then-store-ne-SIZE
-returns-then-store-ne-SIZE c =
-    read-store c.args.self c.args.store.now c.args.i (sym c.sound.ensures ∙ c.if-not-sound.false) c.if-store-ne-SIZE.true
-
 pub returns-in_default : goal.returns-in_default
 returns-in_default c =
     let s = c.args.self in

@@ -10,13 +10,6 @@ returns-in_err-place c =
     let p = err_from_is_err_and c.from_residual.result c.from_residual.ensures.1 in
     rw (p.1, p.2) (open_state c.args.self.now c.args.key _ (sym c.in_err-place.was ∙ c.seek.ensures))
 
--- the slots are sound, and the key is where the search found it
-pub returns-then-not-key_in_range : goal.returns-then-not-key_in_range
-returns-then-not-key_in_range c =
-    let s = c.args.self.now in
-    let f = sought_found s.format s.slots c.args.key _ (sym c.in_ok-place.was ∙ c.seek.ensures) in
-    open-field s c.args.key f.0 (sym c.key_in_range.ensures ∙ c.if-not-key_in_range.true)
-
 pub returns-then-is_some : goal.returns-then-is_some
 returns-then-is_some c =
     let s = c.args.self.now in
