@@ -8,7 +8,7 @@ use mathlib.Core.Bool.{Bool, true, false, not}
 use mathlib.Core.List.{List, [], ◌∷◌}
 use native.Mathlib.Omega.{arith}
 use lib.Dec.{ltb}
-use lib.ListN.{length, set, take, drop}
+use lib.ListN.{length, take, drop}
 use Rattle.std.proofs.Math.ListN.{get_or-eq_default}
 use lib.Seq.{length-take-le, take-take}
 use borrow.Author.Tests.{leb-true, eqb-true, ltb-true, ltb-false, eq-eqb, ne_eqb, lt-ltb, le-ltb}
@@ -34,7 +34,7 @@ use Rattle.station.specs.declared.Station.{Station}
 use Rattle.station.specs.Stations.{sound_station, area, full_size}
 use Rattle.station.specs.Receive.{progress_in, progress_of}
 use Rattle.station.specs.Open.{vacancy, is_open, occupied}
-use Rattle.station.specs.Read.{is_done, reading, length_of, part_of}
+use Rattle.station.specs.Read.{is_done, reading, length_of}
 use Rattle.station.proofs.Areas.{area_length}
 use Rattle.slot.proofs.CodeLaws.{sought_refused}
 use Rattle.station.proofs.Slots.{sound_at}

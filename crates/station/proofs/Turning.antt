@@ -2,41 +2,32 @@
 use Prim.Native.Nat.{ℕ, ◌+◌, ◌-◌, ◌*◌, ◌≤◌, ◌<◌}
 use mathlib.Core.Path.{◌≡◌, refl, sym, ap, ◌∙◌}
 use mathlib.Core.Logic.{◌≢◌}
-use mathlib.Core.Bool.{Bool, true, false, cond}
+use mathlib.Core.Bool.{true, false}
 use mathlib.Core.List.{List, [], ◌∷◌, ◌++◌}
 use native.Mathlib.Omega.{arith}
-use lib.Dec.{leb, ltb, eqb}
 use lib.ListN.{length, set, take, drop, length-drop}
 use lib.Seq.{take_all, drop-drop}
 use borrow.Rule.Slice.PartMut.{put_mid}
 use borrow.Author.Tests.{eqb-true, eq-eqb, ne_eqb, ltb-true, lt-ltb, le-ltb, lt-leb, le-leb}
-use Rattle.std.specs.Prelude.{Option, None, Some, Ok, Err, position}
+use Rattle.std.specs.Prelude.{Err}
 use Rattle.format.specs.declared.Format.{Format}
 use Rattle.format.specs.declared.Refusal.{Refusal}
 use Rattle.format.specs.declared.Refusal.TheVariants.{Field, Store, Closed, State, Surplus}
-use Rattle.format.specs.Refusals.{Returned, check, Result, value, refused, number, Check, guarded, checked_then}
+use Rattle.format.specs.Refusals.{check, value, refused, number, Check, guarded}
 use Rattle.format.proofs.Checks.{pass, none_left, stop_then, pass_then, none_left_then, passed, passed_then}
-use Rattle.frame.specs.declared.Head.{Head}
-use Rattle.frame.specs.Judge as verdicts
 use Rattle.frame.specs.Judge.{Frame, Judged, judge}
 use Rattle.frame.proofs.Judged.{sound_image}
-use Rattle.stream.specs.declared.Answer.{Answer}
-use Rattle.stream.specs.declared.Answer.TheVariants.{Filtered}
 use Rattle.stream.specs.declared.Progress.{Progress}
 use Rattle.stream.specs.declared.Stepped.{Stepped}
 use Rattle.stream.specs.Answers.{meaning, filtered}
 use Rattle.stream.specs.Step.{Next, step, offered, next_of}
 use Rattle.slot.specs.declared.Key.{Key}
-use Rattle.slot.specs.declared.Slot.{Slot}
 use Rattle.slot.specs.Slots.{open_slot, slot_at, is_closed, has_key, place}
-use Rattle.slot.specs.Sound.{sound, sought}
-use Rattle.slot.proofs.CodeLaws.{sought_refused, sought_found}
-use Rattle.slot.proofs.Places.{position_some, position_none}
+use Rattle.slot.specs.Sound.{sought}
+use Rattle.slot.proofs.CodeLaws.{sought_refused}
 use Rattle.station.specs.declared.Station.{Station}
-use Rattle.station.specs.declared.turn.Turn.{Turn}
-use Rattle.station.specs.Stations.{sound_station, with_slots, area, with_area, full_size}
-use Rattle.station.specs.Receive.{After, unchanged, key_of, progress_of, step_at, deliver, judged_as, examined, let_in, receive, concerned, changed, named, after_turn, step_in, step_checks, area_step, went, stepping, slot_of, stepped}
-use Rattle.station.specs.Parts.{frame_of, LetIn}
+use Rattle.station.specs.Stations.{sound_station, with_slots, area, with_area}
+use Rattle.station.specs.Receive.{After, unchanged, key_of, progress_of, step_at, deliver, examined, let_in, receive, concerned, step_in, step_checks, area_step, stepping}
 use Rattle.station.proofs.Areas.{area_length}
 use Rattle.station.proofs.Handing.{sixteen}
 

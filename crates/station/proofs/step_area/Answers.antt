@@ -1,4 +1,4 @@
-use Rattle.std.proofs.Common.{arith, sym, ap, ◌∙◌}
+use Rattle.std.proofs.Common.{arith, ap, ◌∙◌}
 use Rattle.format.specs.Refusals.{value}
 use Rattle.station.specs.Receive.{framed}
 use Rattle.station.proofs.Turning.{steps, lent_on, part_is}

@@ -5,7 +5,7 @@ use Rattle.frame.specs.declared.Head.{Head}
 use Rattle.frame.specs.Judge.{meaning}
 use Rattle.slot.specs.declared.Key.{Key}
 use Rattle.slot.proofs.CodeLaws.{sought_found}
-use Rattle.station.proofs.Turning.{in_state, in_store, in_field, in_judged}
+use Rattle.station.proofs.Turning.{in_state, in_judged}
 use Rattle.station.proofs.Station.let_in.Goals as goal
 
 pub returns-in_err-place : goal.returns-in_err-place

@@ -2,7 +2,7 @@ use Rattle.std.proofs.Common.{◌≡◌, sym, ◌∙◌}
 use Rattle.std.proofs.lemmas.Result.{err_from_is_err_and}
 use Rattle.format.specs.declared.Refusal.TheVariants.{Closed}
 use Rattle.slot.specs.Slots.{is_closed}
-use Rattle.station.proofs.Handing.{sixteen, close_state, close_closed, close_open, stream_open, none_open}
+use Rattle.station.proofs.Handing.{sixteen, close_closed, close_open, stream_open, none_open}
 use Rattle.station.proofs.Station.occupied.Goals as goal
 
 pub returns-in_err-ok_or : goal.returns-in_err-ok_or

@@ -1,8 +1,7 @@
 use Rattle.std.proofs.Common.{refl, sym, ap, ◌∙◌, arith}
 use Rattle.slot.specs.Slots.{is_closed}
 use Rattle.station.specs.Receive.{progress_in}
-use Rattle.station.specs.Read.{is_done}
-use Rattle.station.proofs.Handing.{sixteen, stream_open, none_open, not_done, read_state, read-store, read-closed, read_none, readable, read_done}
+use Rattle.station.proofs.Handing.{sixteen, stream_open, none_open, not_done, read-closed, read_none, readable, read_done}
 use Rattle.station.proofs.Station.read_length.Goals as goal
 
 pub returns-in_default : goal.returns-in_default

@@ -1,4 +1,4 @@
-use Rattle.std.proofs.Common.{sym, ap, ◌∙◌}
+use Rattle.std.proofs.Common.{ap, ◌∙◌}
 use Rattle.station.specs.Receive.{framed, progress_in, slot_of, stepped}
 use Rattle.station.proofs.Turning.{step_refused, step_passed, step_below, slot_steps}
 use Rattle.station.proofs.Station.step_at.Goals as goal

@@ -1,5 +1,4 @@
 use Rattle.std.proofs.Common.{ℕ, ◌<◌, List, ◌∙◌, sym, ap, arith}
-use Rattle.slot.specs.Slots.{has_key}
 use Rattle.slot.proofs.Places.{position_some, position_none}
 use Rattle.station.specs.Receive.{key_of, framed, slot_of, step_at, stepped}
 use Rattle.station.specs.Parts.{frame_of}

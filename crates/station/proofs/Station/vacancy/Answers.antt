@@ -2,7 +2,7 @@ use Rattle.std.proofs.Common.{sym, ◌∙◌}
 use Rattle.std.proofs.lemmas.Result.{err_from_is_err_and}
 use Rattle.slot.specs.Slots.{has_key}
 use Rattle.slot.proofs.CodeLaws.{sought_found}
-use Rattle.station.proofs.Handing.{open_state, open-field, open-taken, open_found, somewhere, nowhere}
+use Rattle.station.proofs.Handing.{open_state, open-taken, open_found, somewhere, nowhere}
 use Rattle.station.proofs.Station.vacancy.Goals as goal
 
 pub returns-in_err-place : goal.returns-in_err-place
