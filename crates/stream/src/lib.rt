@@ -40,27 +40,10 @@ impl Area {
     pub const SIZE: usize = 2048;
 }
 
-fn wide(h: u16) -> usize
-    ensures { result ≡ h }
-{
-    h as usize
-}
-
-fn narrow(n: usize) -> u16
-    requires { n ≤ 2048 }
-    ensures { result ≡ n }
-{
-    n as u16
-}
-
 fn collecting(progress: Progress) -> bool
     ensures { result ≡ collecting progress }
 {
-    match progress {
-        Progress::Idle => false,
-        Progress::Collecting(_) => true,
-        Progress::Done(_) => false,
-    }
+    matches!(progress, Progress::Collecting(_))
 }
 
 fn refuse(name: Refusal, progress: Progress) -> Stepped
@@ -79,7 +62,7 @@ fn hold(at: usize, bytes: &[u8], area: &mut [u8]) -> u16
     ensures area_after { area.new ≡ written area.old at bytes.now }
 {
     copying::copy_in(area, at, bytes);
-    narrow(at + bytes.len())
+    (at + bytes.len()) as u16
 }
 
 // A middle or, where last, an end, while h bytes are held.
@@ -95,10 +78,10 @@ fn append(
     requires { (0 < z) × (0 < m) × (length area.old ≡ 2048) × (length bytes.now ≤ 8) }
     ensures { next_of result area.new ≡ followed z m last (Progress.Collecting h) area.old number bytes.now }
 {
-    let held = wide(h);
+    let held = usize::from(h);
     let awaited = held / z % m;
     let sum = held + bytes.len();
-    if number as usize != awaited {
+    if usize::from(number) != awaited {
         return refuse(Refusal::Step, Progress::Idle);
     }
     if sum > Area::SIZE {
