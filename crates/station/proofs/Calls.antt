@@ -18,9 +18,8 @@ use Rattle.frame.specs.Judge.{Frame, Judged, judge}
 use Rattle.stream.specs.Answers.{filtered}
 use Rattle.stream.specs.Step.{step}
 use Rattle.slot.specs.declared.Key.{Key}
-use Rattle.std.specs.Prelude.{Option}
+use Rattle.std.specs.Prelude.{Option, None, Some}
 use Rattle.slot.specs.declared.Stream.{Stream}
-use Rattle.std.specs.Prelude.{None, Some}
 use Rattle.slot.specs.declared.Slot.{Slot}
 use Rattle.slot.specs.Slots.{closed_slot, open_slot, slot_at, open_with, has_key, place}
 use Rattle.slot.specs.Sound.{key_in_range, fits, slot_sound, slots_sound, keys_differ, sound}

@@ -16,9 +16,7 @@ use Rattle.stream.specs.OneStream.{Alone, one_stream}
 use Rattle.slot.specs.declared.Key.{Key}
 use Rattle.slot.specs.declared.Stream.{Stream}
 use Rattle.slot.specs.declared.Slot.{Slot}
-use Rattle.std.specs.Prelude.{Option}
-use Rattle.slot.specs.declared.Stream.{Stream}
-use Rattle.std.specs.Prelude.{None, Some}
+use Rattle.std.specs.Prelude.{Option, None, Some}
 use Rattle.slot.specs.Slots.{closed_slot, open_slot, slot_at, same_key, has_key}
 use Rattle.slot.proofs.Keys.{same_key_lem}
 use Rattle.station.specs.declared.Station.{Station}

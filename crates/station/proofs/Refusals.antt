@@ -25,9 +25,8 @@ use Rattle.stream.specs.Answers.{Reply, filtered}
 use Rattle.stream.specs.Step.{Next, appended, followed, stepped, step}
 use Rattle.stream.proofs.Cases.{refused_with, while_idle, while_done, while_collecting}
 use Rattle.slot.specs.declared.Key.{Key}
-use Rattle.std.specs.Prelude.{Option}
+use Rattle.std.specs.Prelude.{Option, None, Some}
 use Rattle.slot.specs.declared.Stream.{Stream}
-use Rattle.std.specs.Prelude.{None, Some}
 use Rattle.slot.specs.declared.Slot.{Slot}
 use Rattle.slot.specs.Slots.{closed_slot, open_slot, slot_at, is_closed, open_with, has_key, place}
 use Rattle.slot.specs.Sound.{sound}

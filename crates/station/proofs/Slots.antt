@@ -13,9 +13,8 @@ use Rattle.format.specs.declared.Format.{Format}
 use Rattle.format.proofs.Tests.{each, from_each}
 use Rattle.slot.specs.declared.Key.{Key}
 use Rattle.slot.specs.declared.Slot.{Slot}
-use Rattle.std.specs.Prelude.{Option}
+use Rattle.std.specs.Prelude.{Option, None, Some}
 use Rattle.slot.specs.declared.Stream.{Stream}
-use Rattle.std.specs.Prelude.{None, Some}
 use Rattle.slot.specs.Slots.{closed_slot, slot_at, same_key, open_with, has_key, place}
 use Rattle.slot.specs.Sound.{slot_sound, slots_sound, any, repeated_in, keys_differ}
 use Rattle.slot.proofs.Keys.{same_key_lem}

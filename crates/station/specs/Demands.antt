@@ -9,7 +9,7 @@
 --           soundness, and that the premises can be met
 -- Proofs: proofs/Isolation.antt (demand 3), proofs/RoundTrip.antt, proofs/OnCalls.antt (calls of the code), proofs/Refusals.antt,
 -- proofs/Soundness.antt (the rest).
-use Rattle.std.specs.Prelude.{ℕ, ◌-◌, ◌≤◌, ◌<◌, ◌≡◌, ◌≢◌, Bool, true, false, cond, ◌||◌, List, [], ◌∷◌, ◌++◌, map, leb, eqb, length, replicate, set}
+use Rattle.std.specs.Prelude.{ℕ, ◌-◌, ◌≤◌, ◌<◌, ◌≡◌, ◌≢◌, Bool, true, false, cond, ◌||◌, List, [], ◌∷◌, ◌++◌, map, leb, eqb, length, replicate, set, Option, None, Some}
 use Rattle.format.specs.declared.Format.{Format}
 use Rattle.format.specs.declared.Format.TheVariants.{Standard}
 use Rattle.format.specs.declared.Refusal.TheVariants.{Step, Long}
@@ -25,9 +25,6 @@ use Rattle.stream.specs.Step.{collecting}
 use Rattle.stream.specs.OneStream.{Alone, one_stream}
 use Rattle.slot.specs.declared.Key.{Key}
 use Rattle.slot.specs.declared.Stream.{Stream}
-use Rattle.std.specs.Prelude.{Option}
-use Rattle.slot.specs.declared.Stream.{Stream}
-use Rattle.std.specs.Prelude.{None, Some}
 use Rattle.slot.specs.declared.Slot.{Slot}
 use Rattle.slot.specs.Slots.{closed_slot, open_slot, slot_at, is_closed, has_key, place}
 use Rattle.slot.specs.Sound.{key_in_range, any}

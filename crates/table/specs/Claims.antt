@@ -4,8 +4,7 @@
 use Rattle.std.specs.Prelude.{ℕ, ◌≡◌, ◌≢◌, true, false, List, [], ◌∷◌, length}
 use Rattle.format.specs.declared.Format.{Format}
 use Rattle.format.specs.declared.Refusal.TheVariants.{State}
-use Rattle.format.specs.Refusals.{Result, refused, number}
-use Rattle.format.specs.Refusals.{Returned}
+use Rattle.format.specs.Refusals.{Result, refused, number, Returned}
 use Rattle.stream.specs.declared.Answer.{Answer}
 use Rattle.stream.specs.Answers.{Reply, meaning}
 use Rattle.slot.specs.declared.Slot.{Slot}
