@@ -142,3 +142,6 @@ slot_of (refused n) = 16
 abbrev pub stepped : Station → List ℕ → Key → Frame → Result ℕ → After
 stepped station store key frame (value i) = step_at station store i key frame
 stepped station store key frame (refused n) = unchanged station store (refused n)
+
+abbrev pub turned : Station → List ℕ → ℕ → Key → Frame → After
+turned station store i key frame = stepped station store key frame (stepping store i frame.bytes)

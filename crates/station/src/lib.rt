@@ -5,7 +5,8 @@ ghost use Rattle.std.specs.Prelude.{◌≡◌, ◌<◌, IfOk, IfErr};
 ghost use Rattle.format.specs.Refusals.{meaning};
 ghost use Rattle.slot.specs.Slots.{open_slot, slot_at};
 ghost use Rattle.station.specs.Stations.{new_station};
-ghost use Rattle.station.specs.Receive.{progress_in, receive, concerned, named, after, after_turn, framed, went, area_step, stepping, slot_of, stepped};
+ghost use Rattle.station.specs.Receive.{progress_in, receive, concerned, after, named, after_turn};
+ghost use Rattle.station.specs.Receive.{framed, went, area_step, stepping, slot_of, turned};
 ghost use Rattle.station.specs.Open as handing;
 ghost use Rattle.station.specs.Read.{reading, length_of, part_of, place_of};
 ghost use Rattle.station.specs.Parts.{LetIn};
@@ -134,7 +135,7 @@ impl Station {
     // the key. Where step_area refuses nothing changes.
     pub fn step_at(&self, at: usize, key: Key, head: Head, bytes: &[u8], store: &mut [u8]) -> Turn
         ensures at { named result.change ≡ slot_of (stepping store.old at bytes.now) }
-        ensures stepped { after_turn self.now result store.new ≡ stepped self.now store.old key (framed head bytes.now) (stepping store.old at bytes.now) }
+        ensures stepped { after_turn self.now result store.new ≡ turned self.now store.old at key (framed head bytes.now) }
     {
         let progress = progress_in(self.stream_at(at));
         match step_area(self.format, progress, at, head, bytes, store) {
