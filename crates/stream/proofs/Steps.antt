@@ -1,8 +1,8 @@
 -- What the code's answers say, by the cases of a step.
-use Prim.Native.Nat.{ℕ, ◌+◌, ◌/◌, ◌%◌, ◌≤◌, ◌<◌}
-use mathlib.Core.Path.{◌≡◌}
+use Prim.Native.Nat.{ℕ, ◌+◌, ◌≤◌, ◌<◌}
+use mathlib.Core.Path.{◌≡◌, refl, sym, ap, ◌∙◌}
 use mathlib.Core.Bool.{Bool, true, false}
-use mathlib.Core.List.{List}
+use mathlib.Core.List.{List, [], ◌∷◌}
 use native.Mathlib.Nat.{zero-add}
 use lib.ListN.{length}
 use borrow.Author.Tests.{ne_eqb, eq-eqb, le-leb, lt-leb}
@@ -10,55 +10,54 @@ use Rattle.copying.specs.Copy.{written}
 use Rattle.format.specs.declared.Format.{Format}
 use Rattle.format.specs.declared.Flag.{Flag}
 use Rattle.format.specs.declared.Flag.TheVariants.{Middle, Start, End, Single}
-use Rattle.format.specs.declared.Refusal.TheVariants.{Orphan, Step, Long, Store, Surplus}
+use Rattle.format.specs.declared.Refusal.TheVariants.{Store, Surplus}
 use Rattle.format.specs.Formats.{piece_size, number_range}
-use Rattle.format.specs.Refusals.{guarded}
+use Rattle.format.specs.Refusals.{Returned, value, refused, number, Check, check, guarded}
+use Rattle.format.specs.Refusals as answers
+use Rattle.format.specs.declared.Refusal.{Refusal}
+use Rattle.format.proofs.Checks.{passed}
 use Rattle.stream.specs.declared.Progress.{Progress}
-use Rattle.stream.specs.declared.Progress.TheVariants.{Idle, Collecting, Done}
+use Rattle.stream.specs.declared.Progress.TheVariants.{Collecting, Done}
 use Rattle.stream.specs.declared.Answer.TheVariants.{Packet, Kept}
 use Rattle.std.specs.Prelude.{Err, Ok}
 use Rattle.stream.specs.declared.Stepped.{Stepped}
-use Rattle.stream.specs.Step.{Next, collecting, follows, progress_after, followed, stepped, offered, next_of}
+use Rattle.stream.specs.Step.{Next, collecting, held, follows, progress_after, appended, followed, stepped, offered, next_of}
 
--- a middle or end while h bytes are held, which the code has as `had`
-module _ (z m : ℕ) (last : Bool) (h : ℕ) (area : List ℕ) (n : ℕ) (bytes : List ℕ) (had : ℕ) (e : had ≡ h) where
-  abbrev Follows : Stepped → List ℕ → Type 0
-  Follows r next = next_of r next ≡ followed z m last (Collecting h) area n bytes
+-- what one result refuses, another after the same checks refuses alike
+refused_alike : {A B : Type 0} (checks : List Check) (x : A) (y : B) (n : ℕ) → guarded checks x ≡ refused n → refused n ≡ guarded checks y
+unfolding guarded
+refused_alike [] x y n e = cc
+refused_alike (check name true ∷ checks) x y n e = refused_alike checks x y n e
+refused_alike (check name false ∷ checks) x y n e = cc
 
-  pub out_of_step : (r : Stepped) → r ≡ record { answer = Err Step; progress = Idle } → (n ≡ had / z % m → ⊥) → Follows r area
-  unfolding followed follows guarded progress_after
-  out_of_step r er ne = rw (er, ← e, ne_eqb n (had / z % m) ne)
+-- a middle or end: `ends` says where its bytes end, after those held, or why they are refused
+module _ (z m : ℕ) (last : Bool) (progress : Progress) (area : List ℕ) (n : ℕ) (bytes : List ℕ) (ends : Returned ℕ)
+    (e : answers.meaning ends ≡ guarded (follows z m progress n (length bytes)) (held progress + length bytes)) where
+  pub refused_as : (name : Refusal) → ends ≡ Err name → (after : Progress) → after ≡ progress_after (number name) progress → (next : List ℕ) → next ≡ area
+      → next_of (record { answer = Err name; progress = after }) next ≡ followed z m last progress area n bytes
+  unfolding followed
+  refused_as name r after a next w =
+      let q = refused_alike (follows z m progress n (length bytes)) (held progress + length bytes) (appended last (held progress) area bytes) (number name) (sym e ∙ ap answers.meaning r) in
+      rw (← q, a, w) refl
 
-  pub too_long : (r : Stepped) → r ≡ record { answer = Err Long; progress = Idle }
-      → n ≡ had / z % m → 2048 < had + length bytes → Follows r area
-  unfolding followed follows guarded progress_after
-  too_long r er en l = rw (er, ← e, eq-eqb n (had / z % m) en, lt-leb (had + length bytes) 2048 l)
+  module _ (end : ℕ) (r : ends ≡ Ok end) (next : List ℕ) (w : next ≡ written area (held progress) bytes) where
+    passes : (b : Bool) → value (appended b (held progress) area bytes) ≡ guarded (follows z m progress n (length bytes)) (appended b (held progress) area bytes)
+    unfolding follows guarded
+    passes b =
+        let p = passed (follows z m progress n (length bytes)) (held progress + length bytes) end (sym e ∙ ap answers.meaning r) in
+        rw (p.0.0, p.0.1.0, p.0.1.1.0) refl
 
-  module _ (en : n ≡ had / z % m) (l : had + length bytes ≤ 2048)
-      (end : ℕ) (ee : end ≡ had + length bytes) (next : List ℕ) (w : next ≡ written area had bytes) where
-    pub ended : last ≡ true → Follows (record { answer = Ok (Packet (had + length bytes) false); progress = Done end }) next
-    unfolding followed follows guarded
-    ended b = rw (← e, eq-eqb n (had / z % m) en, le-leb (had + length bytes) 2048 l, b, ee, w)
+    ends_at : held progress + length bytes ≡ end
+    ends_at = (passed (follows z m progress n (length bytes)) (held progress + length bytes) end (sym e ∙ ap answers.meaning r)).1
 
-    pub went_on : last ≡ false → Follows (record { answer = Ok (Kept false); progress = Collecting end }) next
-    unfolding followed follows guarded
-    went_on b = rw (← e, eq-eqb n (had / z % m) en, le-leb (had + length bytes) 2048 l, b, ee, w)
+    pub went_on : last ≡ false → next_of (record { answer = Ok (Kept false); progress = Collecting end }) next ≡ followed z m last progress area n bytes
+    unfolding followed
+    went_on l = rw (l, ← passes false, w, ← ends_at) refl
 
--- a middle or end
-module _ (z m : ℕ) (last : Bool) (progress : Progress) (area : List ℕ) (n : ℕ) (bytes : List ℕ) where
-  pub idle : (r : Stepped) → r ≡ record { answer = Err Orphan; progress = progress } → progress ≡ Idle
-      → next_of r area ≡ followed z m last progress area n bytes
-  unfolding followed follows guarded progress_after
-  idle r er e = rw (er, e)
-
-  pub done : (h : ℕ) (r : Stepped) → r ≡ record { answer = Err Orphan; progress = progress } → progress ≡ Done h
-      → next_of r area ≡ followed z m last progress area n bytes
-  unfolding followed follows guarded progress_after
-  done h r er e = rw (er, e)
-
-  pub begun : (h : ℕ) → progress ≡ Collecting h → (next : Next)
-      → next ≡ followed z m last (Collecting h) area n bytes → next ≡ followed z m last progress area n bytes
-  begun h e next d = rw e d
+    pub ended : last ≡ true → (size : ℕ) → size ≡ end
+        → next_of (record { answer = Ok (Packet size false); progress = Done end }) next ≡ followed z m last progress area n bytes
+    unfolding followed
+    ended l size q = rw (l, ← passes true, w, q, ← ends_at) refl
 
 -- a frame by its flag
 module _ (z m : ℕ) (progress : Progress) (area : List ℕ) (flag : Flag) (n : ℕ) (bytes : List ℕ) where

@@ -1,9 +1,12 @@
 // One stream: what a frame of its key does to its progress and to its area.
 #![tactic(auto)]
 
-ghost use Rattle.std.specs.Prelude.{◌≡◌, ◌+◌, ◌≤◌, ◌<◌, length};
+ghost use Rattle.std.specs.Prelude.{◌≡◌, ◌+◌, ◌≤◌, length, OnOk, IfErr};
 ghost use Rattle.copying.specs.Copy.{written};
-ghost use Rattle.stream.specs.Step.{collecting, followed, stepped, offered, next_of};
+ghost use Rattle.format.specs.Formats.{piece_size, number_range};
+ghost use Rattle.format.specs.Refusals.{guarded};
+ghost use Rattle.format.specs.Refusals as answers;
+ghost use Rattle.stream.specs.Step.{collecting, held, follows, progress_after, offered, next_of};
 ghost use Rattle.stream.specs.Claims.{OneAnswer};
 ghost use Rattle.stream.specs.Bounds.{StepBounds};
 
@@ -46,18 +49,9 @@ fn collecting(progress: Progress) -> bool
     matches!(progress, Progress::Collecting(_))
 }
 
-fn refuse(name: Refusal, progress: Progress) -> Stepped
-    ensures { result ≡ record { answer = Err name; progress = progress } }
-{
-    Stepped {
-        answer: Err(name),
-        progress,
-    }
-}
-
 // Writes the bytes from place at of the area on, and answers where they end.
 fn hold(at: usize, bytes: &[u8], area: &mut [u8]) -> u16
-    requires { (length area.old ≡ 2048) × (at + length bytes.now ≤ 2048) }
+    requires { (at + length bytes.now ≤ 2048) × (length area.old ≡ 2048) }
     ensures value { result ≡ at + length bytes.now }
     ensures area_after { area.new ≡ written area.old at bytes.now }
 {
@@ -65,95 +59,77 @@ fn hold(at: usize, bytes: &[u8], area: &mut [u8]) -> u16
     (at + bytes.len()) as u16
 }
 
-// A middle or, where last, an end, while h bytes are held.
+// The bytes of a middle or an end follow those held. Answers where they end, or ORPHAN, STEP, LONG. A collecting stream
+// is idle after it: the caller says what it is once the bytes are written.
+#[tactic(auto, unfolding(crate::specs::Step::follows, crate::specs::Step::progress_after, format::specs::Refusals::guarded))]
 fn append(
-    z: usize,
-    m: usize,
-    last: bool,
-    h: u16,
+    format: Format,
+    progress: &mut Progress,
     number: u8,
     bytes: &[u8],
     area: &mut [u8],
-) -> Stepped
-    requires { (0 < z) × (0 < m) × (length area.old ≡ 2048) × (length bytes.now ≤ 8) }
-    ensures { next_of result area.new ≡ followed z m last (Progress.Collecting h) area.old number bytes.now }
+) -> Result<u16, Refusal>
+    requires { (length area.old ≡ 2048) × (length bytes.now ≤ 8) }
+    ensures end { answers.meaning result ≡ guarded (follows (piece_size format) (number_range format) progress.old number (length bytes.now)) (held progress.old + length bytes.now) }
+    ensures ok { OnOk result (area.new ≡ written area.old (held progress.old) bytes.now) }
+    ensures err { IfErr result (λ name. (progress.new ≡ progress_after (answers.number name) progress.old) × (area.new ≡ area.old)) }
 {
+    let Progress::Collecting(h) = *progress else {
+        return Err(Refusal::Orphan);
+    };
+    *progress = Progress::Idle;
     let held = usize::from(h);
-    let awaited = held / z % m;
-    let sum = held + bytes.len();
-    if usize::from(number) != awaited {
-        return refuse(Refusal::Step, Progress::Idle);
+    if usize::from(number) != held / format.piece_size() % format.number_range() {
+        return Err(Refusal::Step);
     }
-    if sum > Area::SIZE {
-        return refuse(Refusal::Long, Progress::Idle);
+    if held > Area::SIZE - bytes.len() {
+        return Err(Refusal::Long);
     }
-    let end = hold(held, bytes, area);
-    if last {
-        return Stepped {
-            answer: Ok(Answer::Packet {
-                length: sum,
-                broke: false,
-            }),
-            progress: Progress::Done(end),
-        };
-    }
-    Stepped {
-        answer: Ok(Answer::Kept { broke: false }),
-        progress: Progress::Collecting(end),
-    }
+    Ok(hold(held, bytes, area))
 }
 
-// A middle or, where last, an end.
-fn follow(
-    z: usize,
-    m: usize,
-    last: bool,
-    progress: Progress,
-    number: u8,
-    bytes: &[u8],
-    area: &mut [u8],
-) -> Stepped
-    requires { (0 < z) × (0 < m) × (length area.old ≡ 2048) × (length bytes.now ≤ 8) }
-    ensures { next_of result area.new ≡ followed z m last progress area.old number bytes.now }
-{
-    match progress {
-        Progress::Idle => refuse(Refusal::Orphan, progress),
-        Progress::Collecting(h) => append(z, m, last, h, number, bytes, area),
-        Progress::Done(_) => refuse(Refusal::Orphan, progress),
-    }
-}
-
-// The step in both formats, over the piece size z and the number range m.
+// The step, over a progress that it changes.
 fn advance(
-    z: usize,
-    m: usize,
-    progress: Progress,
+    format: Format,
+    progress: &mut Progress,
     flag: Flag,
     number: u8,
     bytes: &[u8],
     area: &mut [u8],
-) -> Stepped
-    requires { (0 < z) × (0 < m) × (length area.old ≡ 2048) × (length bytes.now ≤ 8) }
-    ensures { next_of result area.new ≡ stepped z m progress area.old flag number bytes.now }
+) -> Result<Answer, Refusal>
+    ensures { next_of (record { answer = result; progress = progress.new }) area.new ≡ offered format progress.old area.old flag number bytes.now }
 {
-    let broke = collecting(progress);
+    if area.len() != Area::SIZE {
+        return Err(Refusal::Store);
+    }
+    if bytes.len() > 8 {
+        return Err(Refusal::Surplus);
+    }
+    let broke = collecting(*progress);
     match flag {
-        Flag::Middle => follow(z, m, false, progress, number, bytes, area),
         Flag::Start => {
             let n = hold(0, bytes, area);
-            Stepped {
-                answer: Ok(Answer::Kept { broke }),
-                progress: Progress::Collecting(n),
-            }
+            *progress = Progress::Collecting(n);
+            Ok(Answer::Kept { broke })
         }
-        Flag::End => follow(z, m, true, progress, number, bytes, area),
         Flag::Single => {
             let length = bytes.len();
             let n = hold(0, bytes, area);
-            Stepped {
-                answer: Ok(Answer::Packet { length, broke }),
-                progress: Progress::Done(n),
-            }
+            *progress = Progress::Done(n);
+            Ok(Answer::Packet { length, broke })
+        }
+        Flag::Middle => {
+            let end = append(format, progress, number, bytes, area)?;
+            *progress = Progress::Collecting(end);
+            Ok(Answer::Kept { broke: false })
+        }
+        Flag::End => {
+            let end = append(format, progress, number, bytes, area)?;
+            *progress = Progress::Done(end);
+            Ok(Answer::Packet {
+                length: usize::from(end),
+                broke: false,
+            })
         }
     }
 }
@@ -163,7 +139,7 @@ fn advance(
 // STORE, more than 8 bytes with SURPLUS, and then changes nothing.
 pub fn step(
     format: Format,
-    progress: Progress,
+    mut progress: Progress,
     flag: Flag,
     number: u8,
     bytes: &[u8],
@@ -171,15 +147,8 @@ pub fn step(
 ) -> Stepped
     ensures { next_of result area.new ≡ offered format progress area.old flag number bytes.now }
 {
-    if area.len() != Area::SIZE {
-        return refuse(Refusal::Store, progress);
-    }
-    if bytes.len() > 8 {
-        return refuse(Refusal::Surplus, progress);
-    }
-    let z = format.piece_size();
-    let m = format.number_range();
-    advance(z, m, progress, flag, number, bytes, area)
+    let answer = advance(format, &mut progress, flag, number, bytes, area);
+    Stepped { answer, progress }
 }
 
 // The claims of this crate. It does nothing: its contract ties each claim to its proof.
