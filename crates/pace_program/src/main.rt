@@ -8,18 +8,11 @@
 ghost use Rattle.std.specs.Prelude.{◌≡◌, true, ◌+◌, ◌*◌, ◌≤◌, length};
 ghost use Rattle.format.specs.Formats.{format_of, in_range};
 
-use format::{Fields, Format, Refusal};
+use format::{Fields, Format};
 use slot::Key;
 use station::Station;
 use std::io::{Input, Print, Read};
 use stream::Answer;
-
-fn format_of(number: u8) -> Format {
-    if number == 0 {
-        return Format::Extended;
-    }
-    Format::Standard
-}
 
 // The fields of stream i.
 fn fields_of(format: Format, i: u8) -> Fields
@@ -45,33 +38,14 @@ fn fields_of(format: Format, i: u8) -> Fields
 // A station with so many streams open on bus A, of which it takes sixteen.
 fn opened(format: Format, count: u8) -> Station {
     let mut station = Station::new(format);
-    let mut i: u8 = 0;
-    while i < count {
-        let fields = fields_of(format, i);
+    for i in 0..count {
         let key = Key {
             bus: 0,
-            fields: fields,
+            fields: fields_of(format, i),
         };
-        let changed = station.open(key);
-        station = changed.station;
-        i += 1;
+        station = station.open(key).station;
     }
     station
-}
-
-// The packets that an answer tells of.
-fn packets(answer: Result<Answer, Refusal>) -> u64
-    ensures { result ≤ 1 }
-{
-    match answer {
-        Ok(Answer::Packet {
-            length: _,
-            broke: _,
-        }) => 1,
-        Ok(Answer::Kept { broke: _ }) => 0,
-        Ok(Answer::Filtered) => 0,
-        Err(_) => 0,
-    }
 }
 
 // Receives the image so many times, and answers how many packets came of it. It stands in images
@@ -81,25 +55,16 @@ fn receive_all(station: Station, store: &mut [u8], images: &[u8], size: usize, c
     requires { 16 + size ≤ length images.now }
     ensures { result ≤ count }
 {
-    let mut state = station;
+    let mut station = station;
     let mut sum: u64 = 0;
     let mut at: usize = 0;
-    let mut i: u32 = 0;
-    while i < count {
-        let received = state.receive(store, 0, &images[at..at + size]);
-        state = received.station;
-        let answer = received.answer;
-        sum += packets(answer);
+    for _ in 0..count {
+        let received = station.receive(store, 0, &images[at..at + size]);
+        station = received.station;
+        sum += u64::from(matches!(received.answer, Ok(Answer::Packet { .. })));
         at = 16 - at;
-        i += 1;
     }
     sum
-}
-
-fn wide(x: u8) -> u64
-    ensures { result ≤ 255 }
-{
-    x as u64
 }
 
 // The sum of the bytes. Were the store never read, the compiler would leave out writing it.
@@ -108,31 +73,29 @@ fn total(bytes: &[u8]) -> u64
     ensures { result ≤ 255 * length bytes.now }
 {
     let mut sum: u64 = 0;
-    let mut i: usize = 0;
-    while i < bytes.len() {
-        sum += wide(bytes[i]);
-        i += 1;
+    for &byte in bytes {
+        sum += u64::from(byte);
     }
     sum
 }
 
-// What a request comes to: the packets, and the sum of the store's bytes.
-fn answer_to(request: &[u8], store: &mut [u8]) -> u64
-    requires { (6 ≤ length request.now) × (length request.now ≤ 22) × (length store.old ≤ 65536) }
+// What a request comes to: the packets, and the sum of the store's bytes; none if it is not whole.
+fn answer_to(request: &[u8], store: &mut [u8]) -> Option<u64>
+    requires { (length request.now ≤ 22) × (length store.old ≤ 65536) }
 {
-    let count = words::word_of(request[3], request[2], request[1], request[0]);
-    let format = format_of(request[5]);
-    let station = opened(format, request[4]);
-    let size = request.len() - 6;
-    let mut images = [0u8; 32];
-    copying::copy_in(&mut images, 0, &request[6..]);
-    copying::copy_in(&mut images, 16, &request[6..]);
-    let sum = receive_all(station, store, &images, size, count);
-    sum + total(store)
+    let (head, image) = request.split_first_chunk::<6>()?;
+    let [a, b, c, d, streams, format] = *head;
+    let format = Format::try_from(format).unwrap_or(Format::Standard);
+    let mut images = [0; 32];
+    copying::copy_in(&mut images, 0, image);
+    copying::copy_in(&mut images, 16, image);
+    let count = u32::from_be_bytes([a, b, c, d]);
+    let sum = receive_all(opened(format, streams), store, &images, image.len(), count);
+    Some(sum + total(store))
 }
 
 // Reads until the request is full, the input ends or a read fails, and answers how many bytes of it
-// were read.
+// were read. Std reads up to the end of the input into a Vec alone, and this program has no heap.
 fn read_full(rt: &impl Input, request: &mut [u8]) -> usize
     ensures { result ≤ length request.new }
 {
@@ -149,12 +112,10 @@ fn read_full(rt: &impl Input, request: &mut [u8]) -> usize
 
 // An image has 13 bytes at most. Of a longer one the first 16 are read, and refused as all would be.
 fn main(rt: HostRuntime) {
-    let mut request = [0u8; 22];
-    let mut store = [0u8; 32768];
+    let mut request = [0; 22];
+    let mut store = [0; 32768];
     let n = read_full(&rt, &mut request);
-    if n < 6 {
-        return;
+    if let Some(sum) = answer_to(&request[..n], &mut store) {
+        let _ = println!(rt; "{sum}");
     }
-    let sum = answer_to(&request[..n], &mut store);
-    let _ = println!(rt; "{sum}");
 }
