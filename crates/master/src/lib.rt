@@ -121,7 +121,8 @@ pub enum Answer {
     GaveUp,
 }
 
-// What a call hands back: the next master, and the answer.
+// What a call hands back: the next master, and the answer. A refusal hands one back too (claim RefusedKeeps), so
+// the master stands beside the Result.
 #[derive(Clone, Copy, Debug, PartialEq, Eq)]
 pub struct Moved {
     pub master: Master,

@@ -26,6 +26,7 @@ impl State {
 fn load(state: &[u8]) -> Result<Master, Refusal>
     ensures { result ≡ loaded state.now }
 {
+    // the buses, then the last four bytes and no more
     let Some((&chosen, &[kind, node, sends, State::LAYOUT])) = state.split_first_chunk::<64>()
     else {
         return Err(Refusal::State);
@@ -74,7 +75,8 @@ fn hand_back(state: &mut [u8], moved: Moved) -> Result<Answer, Refusal>
     Ok(answer)
 }
 
-// Makes the bytes a new master's: bus A chosen for every node, no exchange. Answers 0, or refuses: STATE.
+// Makes the bytes a new master's: bus A chosen for every node, no exchange. Answers 0, or refuses: STATE. The 0
+// is what C gets, and `renew` states it.
 #[tactic(auto, unfolding(crate::specs::Calls::renew))]
 pub fn new(state: &mut [u8]) -> Result<usize, Refusal>
     ensures { calls.renew_after result state.new ≡ calls.renew state.old }
