@@ -35,7 +35,7 @@ pub fn key_in_range(format: Format, key: Key) -> bool
     in_range_of(format, &key)
 }
 
-// The same of a lent key. Keys and slots are lent from here to scan: handed on by value, each would be
+// The same of a lent key. Keys and slots are lent from here to sound_codes: handed on by value, each would be
 // copied in pieces, and the compiler would put the pieces together again.
 #[tactic(auto, unfolding(crate::specs::Sound::key_in_range, format::specs::Tests::all_true))]
 fn in_range_of(format: Format, key: &Key) -> bool
@@ -207,7 +207,7 @@ pub fn seek(format: Format, slots: [Slot; 16], key: Key) -> Result<Option<usize>
     Ok(find_key(format, &codes, key))
 }
 
-// Whether each slot is sound and open keys differ. Told by seek, for any key: so scan is called in one
+// Whether each slot is sound and open keys differ. Told by seek, for any key: so sound_codes is called in one
 // place, and the compiler keeps no copy of the slots for it.
 pub fn sound(format: Format, slots: [Slot; 16]) -> bool
     ensures { result ≡ sound format slots }
