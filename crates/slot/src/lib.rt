@@ -10,7 +10,8 @@ ghost use Rattle.slot.specs.Bounds.{SlotBounds};
 use format::{Extended, Fields, Format, Refusal, Standard};
 use stream::Progress;
 
-// What a stream is known by: the bus (0 is A, 1 is B) and all identifier fields.
+// What a stream is known by: the bus (0 is A, 1 is B) and all identifier fields. The bus is a number, since any may be
+// handed in, and `key_in_range` says which is one.
 #[derive(Clone, Copy, Debug, PartialEq, Eq)]
 pub struct Key {
     pub bus: u8,
@@ -80,7 +81,7 @@ fn slot_sound(format: Format, occupancy: &Option<Stream>) -> bool
 }
 
 // One number for each key in range, made of whole bytes as the fields lie in memory; the function
-// and the bus lie above the priority.
+// and the bus lie above the priority. The arms are no twins: each has its format's own fields.
 fn key_code(key: &Key) -> u32
     requires { key_code key.now < 4294967296 }
     ensures { result ≡ key_code key.now }

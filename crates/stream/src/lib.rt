@@ -136,7 +136,8 @@ fn advance(
 
 // What a frame, by its flag, number and packet bytes, does to a stream: its answer and the progress
 // after it; its bytes are written to the area. Refuses an area of another size than Area::SIZE with
-// STORE, more than 8 bytes with SURPLUS, and then changes nothing.
+// STORE, more than 8 bytes with SURPLUS, and then changes nothing. These three are no struct: a head has the first two,
+// and the bytes lie in the image.
 pub fn step(
     format: Format,
     mut progress: Progress,
