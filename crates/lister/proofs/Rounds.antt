@@ -25,44 +25,15 @@ use Rattle.trace.specs.Claims.{Sized, RoomForLine}
 use Rattle.trace.proofs.Arriving.{sized}
 use Rattle.trace.proofs.LineRoom.{room_for_line}
 use Rattle.lister.specs.declared.Listing.{Listing}
-use Rattle.lister.specs.declared.Told.{Told}
+use Rattle.trace.specs.declared.Line.{Line}
+use Rattle.format.specs.declared.Format.{Format}
+use Rattle.lister.proofs.Hearing.{kept}
 use Rattle.format.specs.Refusals.{Returned}
 use Rattle.lister.specs.declared.Why.{Why}
 use Rattle.lister.specs.declared.Why.TheVariants as why
 use Rattle.std.specs.Prelude.{Ok, Err}
 use Rattle.lister.specs.Listing.{extended_station, opened_for, heard, line_for, next, Stand, listed_one, Reason, input, room, damage, Reached, reached, listed_by, listed, has_room, handed_back, begun, meaning, listing_after}
 use Rattle.lister.specs.Parts.{Tells, Adds}
-
--- ---- what hearing a record keeps
-
-handed_format : (station : Station) (slot : Slot) (r : Result ℕ) → (changed_at station slot r).station.format ≡ station.format
-handed_format station slot (refused n) = refl
-handed_format station slot (value i) = refl
-
-opened_format : (station : Station) (bus : ℕ) (j : Result Judged) → (opened_for station bus j).format ≡ station.format
-unfolding opening
-opened_format station bus (refused n) = refl
-opened_format station bus (value judged) =
-    let key = key_of bus judged.frame in
-    handed_format station (open_slot key Idle) (guarded (open_checks station key) (place is_closed station.slots))
-
-opened_sound : (station : Station) (bus : ℕ) (j : Result Judged) → sound_station station ≡ true → sound_station (opened_for station bus j) ≡ true
-opened_sound station bus (refused n) s = s
-opened_sound station bus (value judged) s = stays.opens station s (key_of bus judged.frame)
-
-pub record Keeps (r : After) : Type 0 where
-  pub slots : sound Extended r.station.slots ≡ true
-  pub store : length r.store ≡ 32768
-
-pub kept : (slots : List Slot) (store : List ℕ) (bus : ℕ) (image : List ℕ) → sound Extended slots ≡ true → length store ≡ 32768
-    → Keeps (heard (extended_station slots) store bus image)
-unfolding heard
-kept slots store bus image s w =
-    let j = judge Extended image in
-    let station = opened_for (extended_station slots) bus j in
-    let c = after_call station store (good station store (opened_sound (extended_station slots) bus j s) (eq-eqb _ _ w)) bus image in
-    let f : (receive station store bus image).station.format ≡ Extended = c.1 ∙ opened_format (extended_station slots) bus j in
-    record { slots = rw f at (stays_sound _ _ c.0); store = c.0.whole }
 
 -- ---- rounds
 
@@ -111,7 +82,7 @@ abbrev beginning : List Slot → ℕ → Listing
 beginning slots count = record { slots = slots; count = count }
 
 pub record Midst (slots₀ : List Slot) (count₀ : ℕ) (store₀ taken output₀ : List ℕ) (slots : List Slot) (count : ℕ) (store output : List ℕ) (used written : ℕ) : Type 0 where
-  pub ok : sound Extended slots ≡ true
+  pub ok : sound_station (extended_station slots) ≡ true
   pub full : length store ≡ 32768
   pub in_input : used ≤ length taken
   pub in_output : written ≤ length output₀
@@ -191,25 +162,28 @@ module _ {slots₀ : List Slot} {count₀ : ℕ} {store₀ taken output₀ : Lis
     further r n er = rw (er, ← drop-drop n written output, m.tail) (drop-drop n written output₀)
 
     -- it lists the record
-    pub goes_on : 96 ≤ length output - written → (ordinal : ℕ) → ordinal ≡ next count → (t : Told) (last : List ℕ)
-        → Tells slots store ordinal bus image t last → (r : ℕ) (final : List ℕ) → Adds (line_text t.line) output written r final
-        → Midst slots₀ count₀ store₀ taken output₀ (set slots t.at t.slot) ordinal last final (used + size) r
+    pub goes_on : 96 ≤ length output - written → (ordinal : ℕ) → ordinal ≡ next count → (line : Line) (now : Station) (last : List ℕ)
+        → Tells (extended_station slots) store ordinal bus image line now last → (r : ℕ) (final : List ℕ) → Adds (line_text line) output written r final
+        → Midst slots₀ count₀ store₀ taken output₀ now.slots ordinal last final (used + size) r
     unfolding listed_one RoomForLine
-    goes_on h ordinal eo t last tell r final add =
-        let k = kept slots store bus image m.ok m.full in
-        let short = room_for_line t.line tell.range in
+    goes_on h ordinal eo line now last tell r final add =
+        let k = kept (extended_station slots) refl m.ok store bus image m.full in
+        let short = room_for_line line tell.range in
         let rest_is : drop (used + size) taken ≡ drop size (drop used taken) = sym (drop-drop size used taken) in
         let text_is : take r final ≡ take written output ++ line_for (next count) bus (judge Extended image) (heard (extended_station slots) store bus image).answer =
         add.head ∙ ap (λ (x : List ℕ). take written output ++ x) (rw eo at tell.text) in
+        let slots' : now.slots ≡ (heard (extended_station slots) store bus image).station.slots = ap (λ (s : Station). s.slots) tell.station in
+        let extended : (heard (extended_station slots) store bus image).station ≡ extended_station (heard (extended_station slots) store bus image).station.slots =
+        ap (λ (f : Format). record { format = f; slots = (heard (extended_station slots) store bus image).station.slots }) k.format in
         record {
-          ok = rw tell.slots' k.slots;
+          ok = ap sound_station (ap extended_station slots' ∙ sym extended) ∙ k.sound;
           full = rw tell.store' k.store;
           in_input = omega (arith, fits.1, left, m.in_input);
           in_output = omega (arith, add.place, short, h, m.size);
           size = add.size ∙ m.size;
-          tail = add.tail ∙ further r (length (line_text t.line)) add.place;
+          tail = add.tail ∙ further r (length (line_text line)) add.place;
           going = m.going ∙ next_round ∙ this h ∙ enough _ _ _ _ (omega (arith, rest-left, fits.0)) (omega (arith, rest-left))
-              ∙ ap (listed (length taken - (used + size)) (has_room output₀)) (λ i. record { slots = sym tell.slots' i; store = sym tell.store' i; count = sym eo i; rest = sym rest_is i; text = sym text_is i });
+              ∙ ap (listed (length taken - (used + size)) (has_room output₀)) (λ i. record { slots = sym slots' i; store = sym tell.store' i; count = sym eo i; rest = sym rest_is i; text = sym text_is i });
         }
 
 -- ---- what the code reads
@@ -227,8 +201,12 @@ image_is taken used size =
     let n : used + size - (used + 4) ≡ size - 4 = omega arith in
     rw (n, drop-drop 4 used taken)
 
-pub told_of : (taken : List ℕ) (used size : ℕ) {slots : List Slot} {store : List ℕ} {ordinal bus : ℕ} {r : Told} {last : List ℕ}
-    → Tells slots store ordinal bus (take (used + size - (used + 4)) (drop (used + 4) taken)) r last
-    → Tells slots store ordinal bus (image_in size (drop used taken)) r last
-told_of taken used size {slots} {store} {ordinal} {bus} {r} {last} t =
-    subst (λ (image : List ℕ). Tells slots store ordinal bus image r last) (image_is taken used size) t
+pub told_of : (taken : List ℕ) (used size : ℕ) {before : Station} {slots : List Slot} {store : List ℕ} {ordinal bus : ℕ} {line : Line} {now : Station} {last : List ℕ}
+    → before ≡ extended_station slots → Tells before store ordinal bus (take (used + size - (used + 4)) (drop (used + 4) taken)) line now last
+    → Tells (extended_station slots) store ordinal bus (image_in size (drop used taken)) line now last
+told_of taken used size {before} {slots} {store} {ordinal} {bus} {line} {now} {last} x t =
+    subst (λ (image : List ℕ). Tells (extended_station slots) store ordinal bus image line now last) (image_is taken used size)
+    (subst (λ (station : Station). Tells station store ordinal bus (take (used + size - (used + 4)) (drop (used + 4) taken)) line now last) x t)
+
+pub as_extended : (station : Station) → station.format ≡ Extended → station ≡ extended_station station.slots
+as_extended station x = ap (λ (f : Format). record { format = f; slots = station.slots }) x

@@ -10,9 +10,9 @@ use Rattle.trace.specs.Records.{Found, whole, damaged, cut, none, record_at}
 use Rattle.trace.specs.Claims.{Sized}
 use Rattle.trace.proofs.Arriving.{sized}
 use Rattle.lister.specs.declared.Listing.{Listing}
-use Rattle.lister.specs.Listing.{Stand, listed_one, Reason, room, Reached, reached, listed_by, listed, has_room, AfterListing, handed_back, begun, listing}
+use Rattle.lister.specs.Listing.{extended_station, Stand, listed_one, Reason, room, Reached, reached, listed_by, listed, has_room, AfterListing, handed_back, begun, listing}
 use Rattle.lister.specs.Claims.{sound_listing, ListingStaysSound}
-use Rattle.lister.proofs.Rounds.{kept}
+use Rattle.lister.proofs.Hearing.{kept}
 use Rattle.lister.proofs.Calling.{at_all}
 
 -- ---- where a listing stands
@@ -24,7 +24,7 @@ pub record Good (s : Stand) : Type 0 where
 one_good : (s : Stand) (bus : ℕ) (image : List ℕ) (size : ℕ) → Good s → Good (listed_one s bus image size)
 unfolding listed_one
 one_good s bus image size g =
-    let k = kept s.slots s.store bus image g.slots g.store in record { slots = k.slots; store = k.store }
+    let k = kept (extended_station s.slots) refl g.slots s.store bus image g.store in record { slots = rw k.format at k.sound; store = k.store }
 
 -- so much of what was left has been taken, and what is left is what follows it
 pub record Taken (rest : List ℕ) (s : Stand) : Type 0 where

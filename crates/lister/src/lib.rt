@@ -2,41 +2,38 @@
 // their lines.
 #![tactic(auto)]
 
-ghost use Rattle.std.specs.Prelude.{◌≡◌, ◌+◌, ◌-◌, ◌<◌, ◌≤◌, true, ◌++◌, length};
+ghost use Rattle.std.specs.Prelude.{◌≡◌, ◌+◌, ◌≤◌, true, length};
 ghost use Rattle.format.specs.declared.Format.TheVariants.{Extended};
 ghost use Rattle.format.specs.Refusals.{value};
 ghost use Rattle.format.specs.Refusals.{meaning as outcome·meaning};
 ghost use Rattle.format.specs.Outputs.{answer};
 ghost use Rattle.format.specs.Outputs.{output_after as over·after};
-ghost use Rattle.frame.specs.Judge.{judge as judge·of};
-ghost use Rattle.slot.specs.Slots.{open_slot};
-ghost use Rattle.slot.specs.Sound.{sound};
-ghost use Rattle.station.specs.Receive.{key_of, after_turn};
-ghost use Rattle.station.specs.Parts.{frame_of, Steps};
-ghost use Rattle.lister.specs.Listing.{new_listing, extended_station, heard, listed, has_room, begun, handed_back, listing, listing_after, stops_at, end_text, ending};
+ghost use Rattle.slot.specs.Sound.{key_in_range};
+ghost use Rattle.station.specs.Stations.{sound_station};
+ghost use Rattle.lister.specs.Parts.{Heads, Opens, Tells, Adds, handed_on};
 ghost use Rattle.trace.specs.Records.{record_at};
 ghost use Rattle.trace.specs.Lines.{line_text, line_in_range};
-ghost use Rattle.lister.specs.Parts.{Heads, Tells, Adds};
+ghost use Rattle.lister.specs.Listing.{new_listing, heard, listed, has_room, begun, handed_back, listing, listing_after, stops_at, last_lines, ending};
 ghost use Rattle.lister.specs.Claims.{ListingStaysSound, InParts, Printed, OneWhy};
 ghost use Rattle.lister.specs.Examples.{ListingExamples, ListingBounds};
 
 use format::{Format, Refusal};
 use frame::{Head, judge};
 use slot::{Key, Slot};
-use station::{Store, Turn, open_slot, progress_in};
-use stream::{Answer, Area, Progress};
+use station::{Station, Store, open_slot};
+use stream::{Answer, Progress};
 use trace::{Entry, LINE_ROOM, Line};
 
 // Where a listing stands between two parts of its trace: the slots, and how many records it has
 // listed.
-#[derive(Clone, Copy)]
+#[derive(Clone, Copy, Debug, PartialEq, Eq)]
 pub struct Listing {
     pub slots: [Slot; 16],
     pub count: u64,
 }
 
 // Why a call went no further.
-#[derive(Clone, Copy)]
+#[derive(Clone, Copy, Debug, PartialEq, Eq)]
 pub enum Why {
     // What is left of the input is no whole record.
     Input,
@@ -48,7 +45,7 @@ pub enum Why {
 
 // What a call hands back: the next listing, why it stopped, how many bytes of the input it took and
 // how many of the output it wrote.
-#[derive(Clone, Copy)]
+#[derive(Clone, Copy, Debug, PartialEq, Eq)]
 pub struct Listed {
     pub listing: Listing,
     pub why: Result<Why, Refusal>,
@@ -56,119 +53,73 @@ pub struct Listed {
     pub written: usize,
 }
 
-// One record told: a slot, what it becomes, and the record's line.
+// A sound station of the extended format.
 #[derive(Clone, Copy)]
-struct Told {
-    at: usize,
-    slot: Slot,
-    line: Line,
+struct Receiver {
+    station: Station,
+    ghost is_extended: { station.format ≡ Extended },
+    ghost is_sound: { sound_station station ≡ true },
 }
 
-// The stream of slot i, of that progress, steps on its area.
-fn step_at(
-    progress: Progress,
-    i: usize,
-    bus: u8,
-    head: Head,
-    image: &[u8],
-    store: &mut [u8],
-) -> Turn
-    requires { (i < 16) × (length store.old ≡ 32768) × (head.start ≤ length image.now) × (length image.now - head.start ≤ 8) }
-    ensures { Steps Extended (open_slot (key_of bus (frame_of head image.now)) progress) i (key_of bus (frame_of head image.now)) (frame_of head image.now) store.old result store.new }
-{
-    let flag = head.flag;
-    let start = head.start;
-    let a = Area::SIZE * i;
-    let e = a + Area::SIZE;
-    let next = stream::step(
-        Format::Extended,
-        progress,
-        flag,
-        head.number,
-        &image[start..],
-        &mut store[a..e],
-    );
-    let fields = head.fields;
-    let key = Key {
-        bus: bus,
-        fields: fields,
-    };
-    let reached = next.progress;
-    let stepped = open_slot(key, reached);
-    let answer = next.answer;
-    Turn {
-        at: i,
-        slot: stepped,
-        answer: answer,
-    }
-}
-
-// A frame is received in sound slots, its key opened before if it is new and a slot is closed.
-fn hear(slots: [Slot; 16], store: &mut [u8], bus: u8, head: Head, image: &[u8]) -> Turn
-    requires { (sound Extended slots ≡ true) × (length store.old ≡ 32768) × (bus ≤ 1) × Heads head image.now }
-    ensures at_bound { result.at < 16 }
-    ensures store_after { after_turn Extended slots result store.new ≡ heard (extended_station slots) store.old bus image.now }
-{
-    let fields = head.fields;
-    let key = Key {
-        bus: bus,
-        fields: fields,
-    };
-    let i = slot::find(slots, key);
-    if i < 16 {
-        let slot = slots[i];
-        let occupancy = slot.occupancy;
-        let progress = progress_in(occupancy);
-        return step_at(progress, i, bus, head, image, store);
-    }
-    let lowest = slot::first_closed(slots);
-    if lowest < 16 {
-        return step_at(Progress::Idle, lowest, bus, head, image, store);
-    }
-    // No slot is left; the first becomes what it was.
-    let first = slots[0];
-    Turn {
-        at: 0,
-        slot: first,
-        answer: Ok(Answer::Filtered),
-    }
-}
-
-// A record of that ordinal is received and told.
-fn tell(slots: [Slot; 16], store: &mut [u8], ordinal: u64, bus: u8, image: &[u8]) -> Told
-    requires { (sound Extended slots ≡ true) × (length store.old ≡ 32768) × (bus ≤ 1) }
-    ensures { Tells slots store.old ordinal bus image.now result store.new }
-{
-    match judge(Format::Extended, image) {
-        Err(name) => {
-            let first = slots[0];
-            Told {
-                at: 0,
-                slot: first,
-                line: Line::Refused { ordinal, bus, name },
-            }
+impl Receiver {
+    // The slot that is open with a key in range, which is opened first if it is new and a slot is closed.
+    fn opened(&mut self, key: Key) -> Option<usize>
+        requires { key_in_range Extended key ≡ true }
+        ensures { Opens self.old.station key result self.new.station }
+    {
+        let found = slot::find(self.station.slots, key);
+        if found.is_some() {
+            return found;
         }
-        Ok(head) => {
-            let t = hear(slots, store, bus, head, image);
-            let slot = t.slot;
-            let answer = t.answer;
-            let fields = head.fields;
-            let flag = head.flag;
-            let start = head.start;
-            let count = (image.len() - start) as u8;
-            let line = Line::Frame {
-                ordinal,
-                bus,
-                fields,
-                flag,
-                number: head.number,
-                count,
-                answer,
-            };
-            Told {
-                at: t.at,
-                slot: slot,
-                line: line,
+        let lowest = slot::first_closed(self.station.slots)?;
+        self.station.slots[lowest] = open_slot(key, Progress::Idle);
+        Some(lowest)
+    }
+
+    // A frame is received, its key opened before if it is new and a slot is closed.
+    fn hear(
+        &mut self,
+        store: &mut [u8],
+        bus: u8,
+        head: Head,
+        image: &[u8],
+    ) -> Result<Answer, Refusal>
+        requires { (length store.old ≡ 32768) × (bus ≤ 1) × Heads head image.now }
+        ensures { handed_on result self.new.station store.new ≡ heard self.old.station store.old bus image.now }
+    {
+        let key = Key {
+            bus,
+            fields: head.fields,
+        };
+        let Some(at) = self.opened(key) else {
+            return Ok(Answer::Filtered);
+        };
+        let station = &self.station;
+        let turn = station.step_at(at, key, head, &image[head.start..], store);
+        if let Some(change) = turn.change {
+            self.station.slots[change.at] = change.slot;
+        }
+        turn.answer
+    }
+
+    // A record of that ordinal is received, and its line.
+    fn tell(&mut self, store: &mut [u8], ordinal: u64, bus: u8, image: &[u8]) -> Line
+        requires { (length store.old ≡ 32768) × (bus ≤ 1) }
+        ensures { Tells self.old.station store.old ordinal bus image.now result self.new.station store.new }
+    {
+        match judge(Format::Extended, image) {
+            Err(name) => Line::Refused { ordinal, bus, name },
+            Ok(head) => {
+                let answer = self.hear(store, bus, head, image);
+                Line::Frame {
+                    ordinal,
+                    bus,
+                    fields: head.fields,
+                    flag: head.flag,
+                    number: head.number,
+                    count: (image.len() - head.start) as u8,
+                    answer,
+                }
             }
         }
     }
@@ -191,68 +142,46 @@ fn stops_at(rest: &[u8]) -> bool
     ensures { result ≡ stops_at (record_at rest.now) }
 {
     match trace::read_record(rest) {
-        Entry::Record { bus: _, size: _ } => false,
         Entry::Damaged => true,
         Entry::Cut => true,
-        Entry::End => false,
+        Entry::Record { .. } | Entry::End => false,
     }
 }
 
-// Puts what follows the lines of the records at the text's beginning, and answers where it ends.
-fn put_end(stops: bool, count: u64, text: &mut [u8; 192]) -> usize
-    requires { length text.old ≡ 192 }
-    ensures { Adds (end_text stops count) text.old 0 result text.new }
+// Lists what stands in the input, by a sound station and with a full-size store.
+fn list_all(
+    mut receiver: Receiver,
+    mut count: u64,
+    store: &mut [u8],
+    input: &[u8],
+    output: &mut [u8],
+) -> Listed
+    requires { length store.old ≡ 32768 }
+    ensures { listing_after result store.new output.new ≡ handed_back (record { slots = receiver.station.slots; count = count }) store.old input.now output.old (value (listed (length input.now) (has_room output.old) (begun (record { slots = receiver.station.slots; count = count }) store.old input.now))) }
 {
-    if !stops {
-        return put_line(Line::Records { count }, text, 0);
-    }
-    let ordinal = std::num::wrapping_add_u64(count, 1);
-    let to = put_line(Line::Stopped { ordinal }, text, 0);
-    put_line(Line::Records { count }, text, to)
-}
-
-fn ended(slots: [Slot; 16], count: u64, why: Result<Why, Refusal>, used: usize, written: usize) -> Listed
-    ensures { result ≡ record { listing = record { slots = slots; count = count }; why = why; used = used; written = written } }
-{
-    let listing = Listing { slots, count };
-    Listed {
-        listing: listing,
-        why: why,
-        used: used,
-        written: written,
-    }
-}
-
-// Lists what stands in the input, in sound slots and with a full-size store.
-fn list_all(listing: Listing, store: &mut [u8], input: &[u8], output: &mut [u8]) -> Listed
-    requires { (sound Extended listing.slots ≡ true) × (length store.old ≡ 32768) }
-    ensures { listing_after result store.new output.new ≡ handed_back listing store.old input.now output.old (value (listed (length input.now) (has_room output.old) (begun listing store.old input.now))) }
-{
-    let mut slots = listing.slots;
-    let mut count = listing.count;
     let mut used = 0;
     let mut written = 0;
-    loop {
+    let why = loop {
         match trace::read_record(&input[used..]) {
-            Entry::End => return ended(slots, count, Ok(Why::Input), used, written),
-            Entry::Cut => return ended(slots, count, Ok(Why::Input), used, written),
-            Entry::Damaged => return ended(slots, count, Ok(Why::Damaged), used, written),
+            Entry::End | Entry::Cut => break Why::Input,
+            Entry::Damaged => break Why::Damaged,
             Entry::Record { bus, size } => {
                 if output.len() - written < LINE_ROOM {
-                    return ended(slots, count, Ok(Why::Room), used, written);
+                    break Why::Room;
                 }
-                count = std::num::wrapping_add_u64(count, 1);
-                let from = used + 4;
-                let to = used + size;
-                let told = tell(slots, store, count, bus, &input[from..to]);
-                let line = told.line;
+                count = count.wrapping_add(1);
+                let line = receiver.tell(store, count, bus, &input[used + 4..used + size]);
                 written = put_line(line, output, written);
-                let at = told.at;
-                let slot = told.slot;
-                slots[at] = slot;
-                used = to;
+                used += size;
             }
         }
+    };
+    let slots = receiver.station.slots;
+    Listed {
+        listing: Listing { slots, count },
+        why: Ok(why),
+        used,
+        written,
     }
 }
 
@@ -261,11 +190,23 @@ impl Listing {
     pub fn new() -> Listing
         ensures { result ≡ new_listing }
     {
-        let slot = Slot {
-            occupancy: None,
-        };
-        let slots = [slot; 16];
-        Listing { slots, count: 0 }
+        let closed = Slot { occupancy: None };
+        Listing {
+            slots: [closed; 16],
+            count: 0,
+        }
+    }
+
+    // What a refused call hands back.
+    fn refused(self, name: Refusal) -> Listed
+        ensures { result ≡ record { listing = self; why = Err name; used = 0; written = 0 } }
+    {
+        Listed {
+            listing: self,
+            why: Err(name),
+            used: 0,
+            written: 0,
+        }
     }
 
     // Lists the records at the head of the input, over the head of the output, until it stops for
@@ -273,14 +214,31 @@ impl Listing {
     pub fn list(self, store: &mut [u8], input: &[u8], output: &mut [u8]) -> Listed
         ensures { listing_after result store.new output.new ≡ listing self store.old input.now output.old }
     {
-        let slots = self.slots;
-        if !slot::sound(Format::Extended, slots) {
-            return ended(slots, self.count, Err(Refusal::State), 0, 0);
+        if !slot::sound(Format::Extended, self.slots) {
+            return self.refused(Refusal::State);
         }
         if store.len() != Store::SIZE {
-            return ended(slots, self.count, Err(Refusal::Store), 0, 0);
+            return self.refused(Refusal::Store);
         }
-        list_all(self, store, input, output)
+        let slots = self.slots;
+        let station = Station {
+            format: Format::Extended,
+            slots,
+        };
+        list_all(Receiver { station }, self.count, store, input, output)
+    }
+
+    // Puts what follows the lines of the records at the text's beginning, and answers where it ends.
+    fn put_end(self, rest: &[u8], text: &mut [u8; 192]) -> usize
+        ensures { Adds (last_lines self rest.now) text.old 0 result text.new }
+    {
+        let count = self.count;
+        if !stops_at(rest) {
+            return put_line(Line::Records { count }, text, 0);
+        }
+        let ordinal = count.wrapping_add(1);
+        let to = put_line(Line::Stopped { ordinal }, text, 0);
+        put_line(Line::Records { count }, text, to)
     }
 
     // Ends the listing where no more comes than what is left of the input: writes what follows the
@@ -293,8 +251,7 @@ impl Listing {
         ensures output_after { output.new ≡ over·after (ending self rest.now (length output.old)) output.old }
     {
         let mut text = [0u8; 192];
-        let stops = stops_at(rest);
-        let n = put_end(stops, self.count, &mut text);
+        let n = self.put_end(rest, &mut text);
         if copying::copy_in(output, 0, &text[..n]) {
             return Ok(n);
         }

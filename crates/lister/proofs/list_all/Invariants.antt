@@ -3,8 +3,9 @@ use Rattle.std.proofs.Common.{◌-◌, length}
 use Rattle.lister.proofs.Rounds.{Midst}
 use Rattle.lister.proofs.list_all.Given as goal
 
-abbrev pub invariant-loop-slots : goal.invariant-loop-slots
-invariant-loop-slots l = Midst l.fn.listing.slots l.fn.listing.count l.fn.store l.fn.input l.fn.output l.slots l.count l.store l.output l.used l.written
+abbrev pub invariant-loop-bus : goal.invariant-loop-bus
+invariant-loop-bus l =
+    Midst l.fn.receiver.station.slots l.fn.count l.fn.store l.fn.input l.fn.output l.receiver.station.slots l.count l.store l.output l.used l.written
 
-abbrev pub decreases-loop-slots : goal.decreases-loop-slots
-decreases-loop-slots l = length l.input - l.used
+abbrev pub decreases-loop-bus : goal.decreases-loop-bus
+decreases-loop-bus l = length l.input - l.used

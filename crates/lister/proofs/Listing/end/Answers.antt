@@ -9,7 +9,7 @@ pub returns-then-copy_in : goal.returns-then-copy_in
 returns-then-copy_in c =
     let a = c.args in
     let p = c.put_end-n in
-    let added = adds_as p.ensures (ap (λ (stops : Bool). end_text stops a.self.count) c.stops_at-stops.ensures) in
+    let added = p.ensures in
     let w = within_room a.self a.rest.now a.output.now p.result _ (all_of added) (size_of added) (sym c.copy_in.ensures.value ∙ c.if-copy_in.true) _ c.copy_in.ensures.target_after in
     record { result_value = w.0; output_after = w.1 }
 
@@ -17,6 +17,6 @@ pub returns : goal.returns
 returns c =
     let a = c.args in
     let p = c.put_end-n in
-    let added = adds_as p.ensures (ap (λ (stops : Bool). end_text stops a.self.count) c.stops_at-stops.ensures) in
+    let added = p.ensures in
     let w = too_long a.self a.rest.now a.output.now p.result _ (all_of added) (size_of added) (sym c.copy_in.ensures.value ∙ c.if-copy_in.false) _ c.copy_in.ensures.target_after in
     record { result_value = w.0; output_after = w.1 }
