@@ -1,6 +1,6 @@
 -- One record heard: what the code does to the station is what opening the key, if it is new, and receiving the image do to it.
 use Rattle.std.proofs.Common.{◌≡◌, ℕ, ◌-◌, ◌<◌, ◌≤◌, true, false, List, length, replicate, set, take, drop, sym, refl, ap, ◌∙◌, arith, length-drop, get_or-set_same, eqb-true, eq-eqb, le-leb}
-use Rattle.std.specs.Prelude.{Option, None, Some, is_some, position, Ok, Err}
+use Rattle.std.specs.Prelude.{Option, None, Some, is_some, position, Ok}
 use Rattle.format.specs.declared.Format.{Format}
 use Rattle.format.specs.declared.Format.TheVariants.{Extended}
 use Rattle.format.specs.declared.Fields.{Fields}

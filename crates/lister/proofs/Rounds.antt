@@ -1,21 +1,14 @@
 -- One record after the other.
-use Rattle.std.proofs.Common.{◌≡◌, ℕ, zero, suc, ◌+◌, ◌-◌, ◌<◌, ◌≤◌, Bool, true, cond, List, ◌++◌, length, take, drop, set, sym, refl, ap, ◌∙◌, subst, sub-one, arith, length-drop, take-append-drop, length-take-le, drop-drop, eq-eqb, le-leb}
+use Rattle.std.proofs.Common.{◌≡◌, ℕ, zero, suc, ◌+◌, ◌-◌, ◌<◌, ◌≤◌, Bool, true, cond, List, ◌++◌, length, take, drop, sym, refl, ap, ◌∙◌, subst, sub-one, arith, length-drop, take-append-drop, length-take-le, drop-drop, le-leb}
 use native.Mathlib.Nat.{sub-zero}
 use borrow.Author.Tests.{lt-leb}
 use Rattle.format.specs.declared.Format.TheVariants.{Extended}
-use Rattle.format.specs.Refusals.{Result, value, refused, guarded}
-use Rattle.frame.specs.Judge.{Judged, judge}
-use Rattle.stream.specs.declared.Progress.TheVariants.{Idle}
+use Rattle.format.specs.Refusals.{value}
+use Rattle.frame.specs.Judge.{judge}
 use Rattle.slot.specs.declared.Slot.{Slot}
-use Rattle.slot.specs.Slots.{open_slot, is_closed, place}
 use Rattle.slot.specs.Sound.{sound}
 use Rattle.station.specs.declared.Station.{Station}
 use Rattle.station.specs.Stations.{sound_station}
-use Rattle.station.specs.Receive.{After, key_of, receive}
-use Rattle.station.specs.Open.{changed_at, opening}
-use Rattle.station.proofs.Calls.{good, stays_sound}
-use Rattle.station.proofs.Isolation.{after_call}
-use Rattle.station.proofs.Soundness.{stays, open_checks}
 use Rattle.station.proofs.Turning.{rest_is}
 use Rattle.trace.specs.declared.Entry.{Entry}
 use Rattle.trace.specs.Records as records
@@ -31,8 +24,8 @@ use Rattle.lister.proofs.Hearing.{kept}
 use Rattle.format.specs.Refusals.{Returned}
 use Rattle.lister.specs.declared.Why.{Why}
 use Rattle.lister.specs.declared.Why.TheVariants as why
-use Rattle.std.specs.Prelude.{Ok, Err}
-use Rattle.lister.specs.Listing.{extended_station, opened_for, heard, line_for, next, Stand, listed_one, Reason, input, room, damage, Reached, reached, listed_by, listed, has_room, handed_back, begun, meaning, listing_after}
+use Rattle.std.specs.Prelude.{Ok}
+use Rattle.lister.specs.Listing.{extended_station, heard, line_for, next, Stand, listed_one, Reason, input, room, damage, Reached, reached, listed_by, listed, has_room, handed_back, begun, meaning, listing_after}
 use Rattle.lister.specs.Parts.{Tells, Adds}
 
 -- ---- rounds

@@ -1,7 +1,6 @@
 -- `lister::Listing::end` meets its contract: the text that was put is copied to the output, or does not end within it (Calling).
-use Rattle.std.proofs.Common.{Bool, sym, ap, ◌∙◌}
-use Rattle.lister.specs.Listing.{end_text}
-use Rattle.lister.proofs.Placing.{adds_as, all_of, size_of}
+use Rattle.std.proofs.Common.{sym, ◌∙◌}
+use Rattle.lister.proofs.Placing.{all_of, size_of}
 use Rattle.lister.proofs.Calling.{within_room, too_long}
 use Rattle.lister.proofs.Listing.end.Goals as goal
 

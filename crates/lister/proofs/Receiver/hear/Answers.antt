@@ -1,5 +1,5 @@
 -- `lister::Receiver::hear` meets its contract: no slot is left for the key, or its stream steps (Hearing).
-use Rattle.std.proofs.Common.{◌∙◌, arith}
+use Rattle.std.proofs.Common.{◌∙◌}
 use Rattle.lister.proofs.Hearing.{key_in_range_lem, at-full, at_open, heard_keeps, turn_none, turn_some}
 use Rattle.lister.proofs.Receiver.hear.Goals as goal
 
