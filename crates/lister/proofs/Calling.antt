@@ -40,11 +40,6 @@ module _ (l : Listing) (store taken output : List ℕ) where
 
 -- ---- the end
 
--- whether it stops, as the code reads what is left
-pub stops_read : (rest : List ℕ) (entry x : Entry) → records.meaning entry rest ≡ record_at rest → entry ≡ x
-    → stops_at (records.meaning x rest) ≡ stops_at (record_at rest)
-stops_read rest entry x e ex = ap stops_at (ap (λ (y : Entry). records.meaning y rest) (sym ex) ∙ e)
-
 module _ (l : Listing) (rest output : List ℕ) (n : ℕ) (bytes : List ℕ) (eb : bytes ≡ last_lines l rest) (en : n ≡ length (last_lines l rest)) where
   abbrev ends : Result ℕ → List ℕ → Type 0
   ends = Writes (ending l rest (length output)) output

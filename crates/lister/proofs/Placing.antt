@@ -55,9 +55,6 @@ module _ (line : Line) (output : List ℕ) (at : ℕ) (ok : line_in_range line �
   pub length_is : (n : ℕ) → value n ≡ answer (writing line (length part)) → n ≡ length (line_text line)
   length_is n e = let q : ◌≡◌ {A = Result ℕ} (value n) (value (length (line_text line))) = e ∙ ap answer fits in cc
 
-  pub line_end : (n : ℕ) → value n ≡ answer (writing line (length part)) → at + n ≤ length output
-  line_end n e = omega (arith, length_is n e, short)
-
   whole_is : put_mid at (length output - at) output (line_text line ++ drop (length (line_text line)) part) ≡ written output at (line_text line)
   unfolding written
   whole_is =

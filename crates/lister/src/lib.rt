@@ -141,11 +141,7 @@ fn put_line(line: Line, output: &mut [u8], at: usize) -> usize
 fn stops_at(rest: &[u8]) -> bool
     ensures { result ≡ stops_at (record_at rest.now) }
 {
-    match trace::read_record(rest) {
-        Entry::Damaged => true,
-        Entry::Cut => true,
-        Entry::Record { .. } | Entry::End => false,
-    }
+    matches!(trace::read_record(rest), Entry::Damaged | Entry::Cut)
 }
 
 // Lists what stands in the input, by a sound station and with a full-size store.
@@ -159,6 +155,7 @@ fn list_all(
     requires { length store.old ≡ 32768 }
     ensures { listing_after result store.new output.new ≡ handed_back (record { slots = receiver.station.slots; count = count }) store.old input.now output.old (value (listed (length input.now) (has_room output.old) (begun (record { slots = receiver.station.slots; count = count }) store.old input.now))) }
 {
+    // Counted here and not by an iterator over the records: how far it came is what is handed back.
     let mut used = 0;
     let mut written = 0;
     let why = loop {
