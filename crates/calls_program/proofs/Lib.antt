@@ -1,6 +1,6 @@
 mod Parts
-mod Rules
 mod Steps
+mod Named
 mod Desks
 mod Benches
 mod Working

@@ -1,5 +1,5 @@
 -- An output of which a part was lent to a call: what the call left in the part stands in its place.
-use Rattle.std.proofs.Common.{◌≡◌, ℕ, ◌+◌, ◌-◌, ◌≤◌, List, length, take, replicate, arith, length-drop, length-take, drop-drop}
+use Rattle.std.proofs.Common.{◌≡◌, ℕ, ◌+◌, ◌-◌, ◌≤◌, List, ◌++◌, length, take, drop, replicate, arith, length-drop, length-take, drop-drop}
 use borrow.Rule.Slice.PartMut.{mid_of, put_mid}
 use Rattle.copying.specs.Copy.{written, copied}
 use Rattle.format.specs.Refusals.{Result}
@@ -29,6 +29,11 @@ module _ (at : ℕ) (text : ℕ → Result (List ℕ)) (room byte : ℕ) (out : 
       let s : lent ≡ room = rw m (part_size out at room h) in
       let b = part_back out at room part (omega arith) in
       rw (m, b, rw s at a, rw s at t)
+
+-- bytes that were lent from the start on
+pub head_written : (out part : List ℕ) (n : ℕ) → length part ≡ n → part ++ drop n out ≡ written out 0 part
+unfolding written
+head_written out part n m = let past : 0 + length part ≡ n = omega (arith, m) in rw past
 
 -- so many bytes of a list that has them
 pub head_size : (list : List ℕ) (n : ℕ) → n ≤ length list → n ≡ length (take n list)

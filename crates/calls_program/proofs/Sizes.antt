@@ -8,7 +8,6 @@ use Rattle.station.specs.declared.Station.{Station}
 use Rattle.station.specs.Read.{reading, length_of, part_of}
 use Rattle.station.proofs.Handing.{has_length}
 use Rattle.calls_program.specs.declared.bench.Bench.{Bench}
-use Rattle.calls_program.specs.declared.bench.Done.{Done}
 use Rattle.calls_program.specs.declared.stations.Desk.{Desk}
 use Rattle.calls_program.specs.Requests.{byte_at, number2_at, bytes_from, format_named}
 use Rattle.calls_program.specs.Responses.{Responded, room_for}
@@ -76,17 +75,17 @@ module _ (operation : ℕ) (args : List ℕ) (small : Bytes args) (request : is_
       (when Fits 18 _ _ (λ _. with_room _ out _ (omega (arith, small 0)))
       (omega arith))))))))
 
-  keeping_fits : (desk : Desk) (bytes out : List ℕ) → DeskFits (keeping_done operation args desk bytes out)
+  keeping_fits : (desk : Desk) (out : List ℕ) → DeskFits (keeping_done operation args desk out)
   unfolding keeping_done station_args other_args ruled among
-  keeping_fits desk bytes out =
-      when DeskFits 5 _ _ (λ _. omega (arith, packet_small desk.station (store_of desk bytes) (byte_at args 0)))
+  keeping_fits desk out =
+      when DeskFits 5 _ _ (λ _. omega (arith, packet_small desk.station (store_of desk) (byte_at args 0)))
       (when DeskFits 10 _ _ (λ e. omega (arith, limit 10 (number2_at args 0 + number2_at args 2) 40000 e refl))
       (when DeskFits 11 _ _ (λ _. omega arith)
       (omega arith)))
 
-  station_fits : (desk : Desk) (bytes out : List ℕ) → DeskFits (station_done operation args desk bytes out)
+  station_fits : (desk : Desk) (out : List ℕ) → DeskFits (station_done operation args desk out)
   unfolding station_done
-  station_fits desk bytes out =
+  station_fits desk out =
       when DeskFits 1 _ _ (λ _. omega arith)
       (when DeskFits 2 _ _ (λ _. omega arith)
       (when DeskFits 3 _ _ (λ _. omega arith)
@@ -94,11 +93,11 @@ module _ (operation : ℕ) (args : List ℕ) (small : Bytes args) (request : is_
       (when DeskFits 8 _ _ (λ _. omega arith)
       (when DeskFits 9 _ _ (λ _. omega arith)
       (when DeskFits 12 _ _ (λ _. omega arith)
-      (keeping_fits desk bytes out)))))))
+      (keeping_fits desk out)))))))
 
-  listing_fits : (desk : Desk) (bytes out : List ℕ) → DeskFits (listing_done operation args desk bytes out)
+  listing_fits : (desk : Desk) (out : List ℕ) → DeskFits (listing_done operation args desk out)
   unfolding listing_done station_args other_args ruled among
-  listing_fits desk bytes out =
+  listing_fits desk out =
       when DeskFits 19 _ _ (λ _. omega arith)
       (when DeskFits 20 _ _ (λ _. omega arith)
       (when DeskFits 21 _ _
@@ -106,24 +105,23 @@ module _ (operation : ℕ) (args : List ℕ) (small : Bytes args) (request : is_
       (when DeskFits 22 _ _ (λ e. with_room _ out _ (omega (arith, limit 22 (number2_at args 0) 4096 e refl)))
       (omega arith))))
 
-  request_fits : (bench : Bench) (bytes out : List ℕ) → BenchFits (request_done operation args bench bytes out)
+  request_fits : (bench : Bench) (out : List ℕ) → BenchFits (request_done operation args bench out)
   unfolding request_done desk_done other_done
-  request_fits bench bytes out =
+  request_fits bench out =
       either BenchFits (is_image operation) _ _ (λ _. image_fits out)
       (either BenchFits (ltb operation 23) _ _
-      (λ _. either BenchFits (ltb operation 13) _ _ (λ _. station_fits bench.desk bytes out) (listing_fits bench.desk bytes out))
+      (λ _. either BenchFits (ltb operation 13) _ _ (λ _. station_fits bench.desk out) (listing_fits bench.desk out))
       (either BenchFits (ltb operation 28) _ _ (λ _. omega arith) (omega arith)))
 
-module _ (bench : Bench) (bytes out : List ℕ) where
-  fits : (request : List ℕ) → Bytes request → BenchFits (responding bench bytes request out)
+module _ (bench : Bench) (out : List ℕ) where
+  fits : (request : List ℕ) → Bytes request → BenchFits (responding bench request out)
   fits [] small = omega arith
   fits (operation ∷ args) small =
       either BenchFits (is_request operation args) _ _
-      (λ r. request_fits operation args (λ i. small (suc i)) r bench bytes out)
+      (λ r. request_fits operation args (λ i. small (suc i)) r bench out)
       (omega arith)
 
-  -- what a request does, and the size of its response
-  pub done_fits : (request : List ℕ) → Bytes request → (done : Done) (bytes' out' : List ℕ)
-      → as_bench done bytes' out' ≡ responding bench bytes request out
-      → (as_bench done bytes' out' ≡ responding bench bytes request out) × (done.size ≤ 40000)
-  done_fits request small done bytes' out' e = (e, omega (arith, ap (λ d. d.response.size) e, fits request small))
+  -- the size of the response to a request
+  pub done_fits : (request : List ℕ) → Bytes request → (bench' : Bench) (size : ℕ) (out' : List ℕ)
+      → as_bench bench' size out' ≡ responding bench request out → size ≤ 40000
+  done_fits request small bench' size out' e = omega (arith, ap (λ d. d.response.size) e, fits request small)

@@ -8,13 +8,12 @@ use Rattle.format.specs.Refusals.{Result, value, refused}
 use Rattle.format.specs.Refusals as refusals
 use Rattle.frame.specs.Judge.{Judged, judge}
 use Rattle.packet.specs.Send.{piece_count, send}
-use Rattle.filter.specs.declared.Pair.{Pair}
 use Rattle.filter.specs.Filters.{accepts, either_accepts, row_pair}
 use Rattle.trace.specs.Lines.{writing}
 use Rattle.trace.specs.Records.{record_at}
 use Rattle.calls_program.specs.Requests.{byte_at, number2_at, number8_at, bytes_from, format_named, fields_at, refusal_named, line_of}
 use Rattle.calls_program.specs.Responses.{answer_bytes, outcome_bytes, found_bytes, field_bytes, flag_byte}
-use Rattle.calls_program.specs.Responses.{Responded, room_for, answer_alone, lent_in}
+use Rattle.calls_program.specs.Responses.{Responded, responds, room_for, answer_alone, lent_in}
 
 -- 7 PIECE: "format, 5 fields, k (2 bytes), room (1 byte), then the packet"; "all EE"
 unfoldable pub piece_in : List ℕ → (room : ℕ) → Result (List ℕ)
@@ -32,15 +31,11 @@ with_frame out start fields flag number =
 
 abbrev pub judged_done : Result Judged → (out : List ℕ) → Responded
 judged_done (value j) out =
-    record { size = 12; output = with_frame out j.start j.frame.fields j.frame.flag j.frame.number }
+    responds 12 (with_frame out j.start j.frame.fields j.frame.flag j.frame.number)
 judged_done (refused n) out = answer_alone (answer_bytes 4 n 0) out
 
 unfoldable pub judge_done : List ℕ → (out : List ℕ) → Responded
 judge_done args out = judged_done (judge (format_named (byte_at args 0)) (bytes_from args 1)) out
-
--- what a pair of filters accepts, or the first of them alone
-abbrev pub asked : Pair → (alone : Bool) → ℕ → Bool
-asked pair alone id = cond alone (accepts pair.first id) (either_accepts pair id)
 
 -- "n identifiers, from the one given; after 65,535 comes 0": "n bytes, each 1 if the identifier is accepted, else 0"
 unfoldable pub accepted_bytes : (ℕ → Bool) → (n from : ℕ) → List ℕ
@@ -78,4 +73,4 @@ image_done operation args out =
     (cond (operation == 16) (row_done args out)
     (cond (operation == 17) (answer_alone (found_bytes (record_at args)) out)
     (cond (operation == 18) (line_done args out)
-    (record { size = 0; output = out }))))))))
+    (responds 0 out))))))))

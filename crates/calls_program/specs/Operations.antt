@@ -3,13 +3,50 @@
 use Rattle.std.specs.Prelude.{ℕ, ◌+◌, Bool, true, false, cond, List, [], ◌∷◌, length, ◌==◌, nat_le}
 use Rattle.format.specs.Tests.{all_true}
 use Rattle.format.specs.Refusals.{number}
+use Rattle.calls_program.specs.declared.operations.Operation.{Operation}
+use Rattle.calls_program.specs.declared.operations.Operation.TheVariants as operation
 use Rattle.master.specs.declared.Master.{Master}
 use Rattle.master.specs.Masters.{new_master}
 use Rattle.master.specs.Exchanges.{MasterAfter, starting, replying, timing_out}
 use Rattle.watch.specs.declared.Watch.{Watch}
-use Rattle.watch.specs.Watching.{new_watch, hearing, checking}
+use Rattle.watch.specs.declared.Checked.{Checked}
+use Rattle.watch.specs.Watching.{WatchAfter, new_watch, hearing, checking, resets}
 use Rattle.calls_program.specs.Requests.{byte_at, number2_at, number4_at, kind_named, refusal_named, master_named}
-use Rattle.calls_program.specs.Responses.{answer_bytes, outcome_bytes, told_bytes, resets_of}
+use Rattle.copying.specs.Copy.{copied}
+use Rattle.calls_program.specs.Responses.{Responded, responds, answer_bytes, outcome_bytes, told_bytes, out_with_master, out_with_watch}
+
+-- the byte of each operation
+abbrev pub number_of : Operation → ℕ
+number_of operation.New = 1
+number_of operation.Open = 2
+number_of operation.Close = 3
+number_of operation.Receive = 4
+number_of operation.Read = 5
+number_of operation.Count = 6
+number_of operation.Piece = 7
+number_of operation.Slot = 8
+number_of operation.Lend = 9
+number_of operation.Store = 10
+number_of operation.Fill = 11
+number_of operation.Front = 12
+number_of operation.Judge = 13
+number_of operation.Number = 14
+number_of operation.Filter = 15
+number_of operation.Row = 16
+number_of operation.Record = 17
+number_of operation.Line = 18
+number_of operation.Listing = 19
+number_of operation.Listed = 20
+number_of operation.List = 21
+number_of operation.End = 22
+number_of operation.Master = 23
+number_of operation.Exchange = 24
+number_of operation.Start = 25
+number_of operation.Reply = 26
+number_of operation.Timeout = 27
+number_of operation.Watch = 28
+number_of operation.Heard = 29
+number_of operation.Check = 30
 
 -- operations, and what their requests have to meet
 pub data Rule : Type 0 where
@@ -99,15 +136,31 @@ master_done operation args master =
     (cond (operation == 26) (as_called (replying master (byte_at args 0) (byte_at args 1) (byte_at args 2)))
     (as_called (timing_out master)))))
 
+-- "answer, master"
+abbrev pub master_answered : MasterDone → (out : List ℕ) → Responded
+master_answered done out = responds 71 (out_with_master (copied out 0 done.answer) done.master)
+
 -- 28 WATCH, 29 HEARD, 30 CHECK, in the same way
 pub record WatchDone : Type 0 where
   pub answer : List ℕ
   pub watch : Watch
 
+abbrev pub as_renewed : (time : ℕ) → WatchDone
+as_renewed time = record { answer = answer_bytes 5 0 0; watch = new_watch time }
+
+abbrev pub as_heard : WatchAfter → WatchDone
+as_heard after = record { answer = outcome_bytes after.answer; watch = after.watch }
+
+-- 1 if A is to be reset, and 2 more if B is
+abbrev pub as_checked : Checked → WatchDone
+as_checked after = record { answer = answer_bytes 5 (resets after.a after.b) 0; watch = after.watch }
+
 unfoldable pub watch_done : ℕ → List ℕ → Watch → WatchDone
 watch_done operation args watch =
-    let heard = hearing watch (byte_at args 0) (number4_at args 1) in
-    let checked = checking watch (number4_at args 0) in
-    cond (operation == 28) (record { answer = answer_bytes 5 0 0; watch = new_watch (number4_at args 0) })
-    (cond (operation == 29) (record { answer = outcome_bytes heard.answer; watch = heard.watch })
-    (record { answer = answer_bytes 5 (resets_of checked.a checked.b) 0; watch = checked.watch }))
+    cond (operation == 28) (as_renewed (number4_at args 0))
+    (cond (operation == 29) (as_heard (hearing watch (byte_at args 0) (number4_at args 1)))
+    (as_checked (checking watch (number4_at args 0))))
+
+-- "answer, watch"
+abbrev pub watch_answered : WatchDone → (out : List ℕ) → Responded
+watch_answered done out = responds 12 (out_with_watch (copied out 0 done.answer) done.watch)

@@ -23,6 +23,8 @@ use Rattle.format.specs.Refusals.{Returned}
 use Rattle.stream.specs.declared.Answer.{Answer}
 use Rattle.stream.specs.declared.Answer.TheVariants as answer
 use Rattle.std.specs.Prelude.{Ok, Err}
+use Rattle.calls_program.specs.declared.stations.Front.{Front}
+use Rattle.calls_program.specs.declared.stations.Front.TheVariants.{Itself, Table}
 use Rattle.trace.specs.declared.Line.{Line}
 use Rattle.trace.specs.declared.Line.TheVariants as line
 
@@ -81,6 +83,10 @@ unfoldable pub slot_named : (kind h : ℕ) → Key → Slot
 slot_named kind h key =
     cond (kind == 0) closed_slot
     (open_slot key (cond (kind == 1) progress.Idle (cond (kind == 2) (progress.Collecting h) (progress.Done h))))
+
+-- FRONT: "0 or 1"
+unfoldable pub front_named : ℕ → Front
+front_named code = cond (code == 0) Itself Table
 
 -- "a refusal's number"; of a line "one that is no refusal's is read as 21"
 abbrev pub refusal_table : List Refusal

@@ -1,18 +1,11 @@
 -- compare/PROTOCOL.md: "Both read requests from standard input until it ends and write a response for each to standard output, in order".
 -- "A request is a two-byte length of what follows, an operation byte, and its arguments. A response is a two-byte length of what follows,
 -- and that many bytes." What is done with the requests that an input holds.
-use Rattle.std.specs.Prelude.{◌≡◌, ℕ, zero, suc, ◌+◌, ◌-◌, ◌≤◌, true, false, cond, List, length, take, drop, replicate, ◌==◌, nat_le}
+use Rattle.std.specs.Prelude.{◌≡◌, ℕ, zero, suc, ◌+◌, ◌-◌, ◌≤◌, cond, List, length, take, drop, nat_le, Option, None, Some, IfSome}
 use Rattle.copying.specs.Copy.{written, copied}
-use Rattle.format.specs.declared.Format.TheVariants.{Extended}
-use Rattle.station.specs.Stations.{new_station}
-use Rattle.master.specs.Masters.{new_master}
-use Rattle.watch.specs.Watching.{new_watch}
 use Rattle.calls_program.specs.declared.bench.Bench.{Bench}
-use Rattle.calls_program.specs.declared.Held.{Held}
-use Rattle.calls_program.specs.declared.Session.{Session}
-use Rattle.calls_program.specs.declared.Span.{Span}
 use Rattle.calls_program.specs.declared.Work.{Work}
-use Rattle.calls_program.specs.Requests.{number2_at, bytes_between}
+use Rattle.calls_program.specs.Requests.{number2_at}
 use Rattle.calls_program.specs.Responses.{number2_bytes}
 use Rattle.calls_program.specs.Benches.{responding}
 
@@ -20,90 +13,77 @@ use Rattle.calls_program.specs.Benches.{responding}
 unfoldable pub request_end : (input : List ℕ) (at : ℕ) → ℕ
 request_end input at = at + 2 + number2_at input at
 
--- where it stands, without its length; nowhere if it is not whole
-unfoldable pub span_at : (input : List ℕ) (at : ℕ) → Span
-span_at input at =
-    cond (nat_le (request_end input at) (length input)) (record { from = at + 2; to = request_end input at }) (record { from = 0; to = 0 })
+-- the request, without its length; none if it is not whole
+unfoldable pub request_in : (input : List ℕ) (at : ℕ) → Option (List ℕ)
+request_in input at = cond (nat_le (request_end input at) (length input)) (Some (take (number2_at input at) (drop (at + 2) input))) None
 
--- where a response starts in an output of `room` bytes, after its length; 0 if there might not be room for one of `most` bytes
-unfoldable pub start_at : (room filled most : ℕ) → ℕ
-start_at room filled most = cond (nat_le (filled + 2 + most) room) (filled + 2) 0
+-- where a response starts in an output of `room` bytes, after its length; none if there might not be room for one of `most` bytes
+unfoldable pub start_at : (room filled most : ℕ) → Option ℕ
+start_at room filled most = cond (nat_le (filled + 2 + most) room) (Some (filled + 2)) None
 
--- where the work stands, the bytes, and the output
+-- the bench, where the work stands, and the output
 pub record WorkDone : Type 0 where
+  pub bench : Bench
   pub work : Work
-  pub bytes : List ℕ
   pub output : List ℕ
 
-abbrev pub as_work : Work → (bytes output : List ℕ) → WorkDone
-as_work work bytes output = record { work = work; bytes = bytes; output = output }
-
--- no request that is whole, or no room for a response
-abbrev pub stopped_work : Work → Work
-stopped_work work = record { bench = work.bench; at = work.at; filled = work.filled; going = false }
+abbrev pub as_work : Bench → Work → (output : List ℕ) → WorkDone
+as_work bench work output = record { bench = bench; work = work; output = output }
 
 -- one request, and its response
-abbrev pub responded_to : Work → Span → (start : ℕ) → (bytes input output : List ℕ) → WorkDone
-responded_to work span start bytes input output =
-    let done = responding work.bench bytes (bytes_between input span.from span.to) (drop start output) in
-    let size = done.response.size in
-    as_work
-    (record { bench = done.bench; at = span.to; filled = start + size; going = true })
-    done.bytes
-    (copied (written output start done.response.output) work.filled (number2_bytes size))
+abbrev pub responded_to : WorkDone → (request : List ℕ) (start : ℕ) → WorkDone
+responded_to done request start =
+    let after = responding done.bench request (drop start done.output) in
+    let size = after.response.size in
+    as_work after.bench
+    (record { at = done.work.at + 2 + length request; filled = start + size })
+    (copied (written done.output start after.response.output) done.work.filled (number2_bytes size))
 
--- the longest response is that of STORE: all bytes
-unfoldable pub worked_one : Work → (bytes input output : List ℕ) → WorkDone
-worked_one work bytes input output =
-    let span = span_at input work.at in
-    let start = start_at (length output) work.filled (length bytes) in
-    cond (span.to == 0) (as_work (stopped_work work) bytes output)
-    (cond (start == 0) (as_work (stopped_work work) bytes output) (responded_to work span start bytes input output))
+-- none if there is no request that is whole, or no room for a response
+abbrev pub responded_in : WorkDone → (request : Option (List ℕ)) (start : Option ℕ) → Option WorkDone
+responded_in done None start = None
+responded_in done (Some request) None = None
+responded_in done (Some request) (Some start) = Some (responded_to done request start)
+
+-- the longest response is that of STORE: all 40,000 bytes
+unfoldable pub worked_one : WorkDone → (input : List ℕ) → Option WorkDone
+worked_one done input = responded_in done (request_in input done.work.at) (start_at (length done.output) done.work.filled 40000)
+
+-- where the work goes on, if it does
+abbrev pub from_next : Option WorkDone → (WorkDone → WorkDone) → WorkDone → WorkDone
+from_next None on done = done
+from_next (Some next) on done = on next
 
 -- one request after the other, at most so many
 unfoldable pub worked : (turns : ℕ) → WorkDone → (input : List ℕ) → WorkDone
 worked zero done input = done
-worked (suc turns) done input =
-    cond done.work.going (worked turns (worked_one done.work done.bytes input done.output) input) done
+worked (suc turns) done input = from_next (worked_one done input) (λ next. worked turns next input) done
 
 -- from the beginning of an input and of an output: an input has fewer requests than bytes
-abbrev pub worked_off : Bench → (bytes input output : List ℕ) → WorkDone
-worked_off bench bytes input output =
-    worked (length input) (as_work (record { bench = bench; at = 0; filled = 0; going = true }) bytes output) input
+abbrev pub worked_off : Bench → (input output : List ℕ) → WorkDone
+worked_off bench input output = worked (length input) (as_work bench (record { at = 0; filled = 0 }) output) input
 
 -- what is left of the first `held` bytes of an input from a place on
 abbrev pub rest_of : (input : List ℕ) (at held : ℕ) → List ℕ
 rest_of input at held = take (held - at) (drop at input)
 
+-- what is left stands at the input's head; more is held only if no whole request is left
+pub record Holds (input : List ℕ) (at held more : ℕ) (last : List ℕ) : Type 0 where
+  pub within : more ≤ length input
+  pub kept : take (length (rest_of input at held)) last ≡ rest_of input at held
+  pub more_than : length (rest_of input at held) ≤ more
+  pub whole : request_end (rest_of input at held) 0 ≤ length (rest_of input at held) → more ≡ length (rest_of input at held)
+
 -- going on: "as soon as no whole request is left, all responses so far are written". Whether they could be written, and what is read then,
--- no contract can say. Where it goes on, what is left stands at the input's head; more is held only if no whole request is left
-pub record GoesOn (input : List ℕ) (at held : ℕ) (r : Held) (last : List ℕ) : Type 0 where
-  pub within : r.held ≤ length input
-  pub kept : r.going ≡ true → take (length (rest_of input at held)) last ≡ rest_of input at held
-  pub more : r.going ≡ true → length (rest_of input at held) ≤ r.held
-  pub whole : r.going ≡ true → request_end (rest_of input at held) 0 ≤ length (rest_of input at held)
-      → r.held ≡ length (rest_of input at held)
+-- no contract can say. Where it goes on, that much is held
+abbrev pub GoesOn : (input : List ℕ) (at held : ℕ) → Option ℕ → (last : List ℕ) → Type 0
+GoesOn input at held r last = IfSome r (λ more. Holds input at held more last)
 
 -- a turn: what is held is worked off, and it goes on
-abbrev pub worked_in : Session → (bytes input output : List ℕ) → WorkDone
-worked_in session bytes input output = worked_off session.bench bytes (take session.held input) output
+abbrev pub worked_in : Bench → (held : ℕ) (input output : List ℕ) → WorkDone
+worked_in bench held input output = worked_off bench (take held input) output
 
-pub record Turned (session : Session) (bytes input output : List ℕ) (r : Session) (bytes' input' output' : List ℕ) : Type 0 where
-  pub bench : r.bench ≡ (worked_in session bytes input output).work.bench
-  pub bytes_are : bytes' ≡ (worked_in session bytes input output).bytes
-  pub output_is : output' ≡ (worked_in session bytes input output).output
-  pub on : GoesOn input (worked_in session bytes input output).work.at session.held (record { held = r.held; going = r.going }) input'
-
--- "The program holds a station, at first a new extended one; a front, at first 0; 40,000 bytes, at first all 0, of which the first `lent`
--- are lent to the calls as their store, at first 32,768; a count of records listed, at first 0; a master, at first a new one; and a watch,
--- at first one that is new at time 0."
-abbrev pub first_bench : Bench
-first_bench =
-    record {
-      desk = record { station = new_station Extended; lent = 32768; front = 0; count = 0 };
-      master = new_master;
-      watch = new_watch 0;
-    }
-
-abbrev pub first_bytes : List ℕ
-first_bytes = replicate 40000 0
+pub record Turned (bench : Bench) (held : ℕ) (input output : List ℕ) (r : Option ℕ) (bench' : Bench) (input' output' : List ℕ) : Type 0 where
+  pub bench_is : bench' ≡ (worked_in bench held input output).bench
+  pub output_is : output' ≡ (worked_in bench held input output).output
+  pub on : GoesOn input (worked_in bench held input output).work.at held r input'

@@ -1,69 +1,45 @@
 // The operations of compare/PROTOCOL.md, and which requests are requests: the number of argument
 // bytes that each has, and what its table rules out.
 ghost use Rattle.std.specs.Prelude.{◌≡◌};
-ghost use Rattle.calls_program.specs.Operations.{args_fit, station_args, other_args, is_request};
+ghost use Rattle.format.specs.Numbers.{Reads};
+ghost use Rattle.calls_program.specs.Operations.{number_of, args_fit, station_args, other_args, is_request};
 
-use crate::request::{byte, number, refusal_of};
+use crate::request::{byte, number};
+use format::{NoSuch, Refusal};
 
-pub const NEW: u8 = 1;
-
-pub const OPEN: u8 = 2;
-
-pub const CLOSE: u8 = 3;
-
-pub const RECEIVE: u8 = 4;
-
-pub const READ: u8 = 5;
-
-pub const COUNT: u8 = 6;
-
-pub const PIECE: u8 = 7;
-
-pub const SLOT: u8 = 8;
-
-pub const LEND: u8 = 9;
-
-pub const STORE: u8 = 10;
-
-pub const FILL: u8 = 11;
-
-pub const FRONT: u8 = 12;
-
-pub const JUDGE: u8 = 13;
-
-pub const NUMBER: u8 = 14;
-
-pub const FILTER: u8 = 15;
-
-pub const ROW: u8 = 16;
-
-pub const RECORD: u8 = 17;
-
-pub const LINE: u8 = 18;
-
-pub const LISTING: u8 = 19;
-
-pub const LISTED: u8 = 20;
-
-pub const LIST: u8 = 21;
-
-pub const END: u8 = 22;
-
-pub const MASTER: u8 = 23;
-
-pub const EXCHANGE: u8 = 24;
-
-pub const START: u8 = 25;
-
-pub const REPLY: u8 = 26;
-
-pub const TIMEOUT: u8 = 27;
-
-pub const WATCH: u8 = 28;
-
-pub const HEARD: u8 = 29;
-
-pub const CHECK: u8 = 30;
+#[derive(Clone, Copy, Debug, PartialEq, Eq)]
+pub enum Operation {
+    New = 1,
+    Open = 2,
+    Close = 3,
+    Receive = 4,
+    Read = 5,
+    Count = 6,
+    Piece = 7,
+    Slot = 8,
+    Lend = 9,
+    Store = 10,
+    Fill = 11,
+    Front = 12,
+    Judge = 13,
+    Number = 14,
+    Filter = 15,
+    Row = 16,
+    Record = 17,
+    Line = 18,
+    Listing = 19,
+    Listed = 20,
+    List = 21,
+    End = 22,
+    Master = 23,
+    Exchange = 24,
+    Start = 25,
+    Reply = 26,
+    Timeout = 27,
+    Watch = 28,
+    Heard = 29,
+    Check = 30,
+}
 
 // How many bytes the program holds of which a part is lent.
 pub const BYTES: usize = 40000;
@@ -74,68 +50,104 @@ const IDENTIFIERS: usize = 32768;
 // The longest output of a listing's request.
 const ROOM: usize = 4096;
 
-// Whether a request of the operation may have so many argument bytes. Numbers that follow each other
-// have arms of their own: of such an arm the prover makes a range.
-#[tactic(auto, unfolding(crate::specs::Operations::args_fit, crate::specs::Operations::ruled, crate::specs::Operations::among))]
-fn fits(operation: u8, size: usize) -> bool
-    ensures { result ≡ args_fit operation size }
-{
-    match operation {
-        LISTING | MASTER | TIMEOUT => size == 0,
-        NEW | CLOSE | READ | FRONT | NUMBER => size == 1,
-        LEND | FILL | START => size == 2,
-        REPLY => size == 3,
-        STORE | WATCH | CHECK => size == 4,
-        EXCHANGE | HEARD => size == 5,
-        OPEN => size == 7,
-        FILTER | LISTED => size == 8,
-        COUNT => size == 9,
-        SLOT => size == 11,
-        ROW => size == 12,
-        LINE => size == 30,
-        RECEIVE | JUDGE => size >= 1,
-        LIST => size >= 2,
-        END => size >= 2,
-        PIECE => size >= 9,
-        RECORD => true,
-        _ => false,
+impl TryFrom<u8> for Operation {
+    type Error = NoSuch;
+
+    ghost try_from_gives = { Reads number_of };
+
+    fn try_from(byte: u8) -> Result<Self, NoSuch> {
+        match byte {
+            1 => Ok(Operation::New),
+            2 => Ok(Operation::Open),
+            3 => Ok(Operation::Close),
+            4 => Ok(Operation::Receive),
+            5 => Ok(Operation::Read),
+            6 => Ok(Operation::Count),
+            7 => Ok(Operation::Piece),
+            8 => Ok(Operation::Slot),
+            9 => Ok(Operation::Lend),
+            10 => Ok(Operation::Store),
+            11 => Ok(Operation::Fill),
+            12 => Ok(Operation::Front),
+            13 => Ok(Operation::Judge),
+            14 => Ok(Operation::Number),
+            15 => Ok(Operation::Filter),
+            16 => Ok(Operation::Row),
+            17 => Ok(Operation::Record),
+            18 => Ok(Operation::Line),
+            19 => Ok(Operation::Listing),
+            20 => Ok(Operation::Listed),
+            21 => Ok(Operation::List),
+            22 => Ok(Operation::End),
+            23 => Ok(Operation::Master),
+            24 => Ok(Operation::Exchange),
+            25 => Ok(Operation::Start),
+            26 => Ok(Operation::Reply),
+            27 => Ok(Operation::Timeout),
+            28 => Ok(Operation::Watch),
+            29 => Ok(Operation::Heard),
+            30 => Ok(Operation::Check),
+            _ => Err(NoSuch(byte)),
+        }
     }
 }
 
-// Whether the arguments are within what the tables say: formats, slots, kinds, sizes.
-fn within(operation: u8, args: &[u8]) -> bool
-    ensures { result ≡ station_args operation args.now (other_args operation args.now) }
-{
-    match operation {
-        NEW | COUNT | FRONT => byte(args, 0) <= 1,
-        PIECE | JUDGE => byte(args, 0) <= 1,
-        OPEN => byte(args, 1) <= 1,
-        SLOT => (byte(args, 0) <= 15) & (byte(args, 1) <= 3) & (byte(args, 5) <= 1),
-        LEND => number(args, 0) <= BYTES,
-        STORE => number(args, 0) + number(args, 2) <= BYTES,
-        _ => within_others(operation, args),
+impl Operation {
+    // Whether a request of the operation may have so many argument bytes.
+    #[tactic(auto, unfolding(crate::specs::Operations::args_fit, crate::specs::Operations::ruled, crate::specs::Operations::among))]
+    fn fits(self, size: usize) -> bool
+        ensures { result ≡ args_fit (number_of self) size }
+    {
+        match self {
+            Self::Listing | Self::Master | Self::Timeout => size == 0,
+            Self::New | Self::Close | Self::Read | Self::Front | Self::Number => size == 1,
+            Self::Lend | Self::Fill | Self::Start => size == 2,
+            Self::Reply => size == 3,
+            Self::Store | Self::Watch | Self::Check => size == 4,
+            Self::Exchange | Self::Heard => size == 5,
+            Self::Open => size == 7,
+            Self::Filter | Self::Listed => size == 8,
+            Self::Count => size == 9,
+            Self::Slot => size == 11,
+            Self::Row => size == 12,
+            Self::Line => size == 30,
+            Self::Receive | Self::Judge => size >= 1,
+            Self::List | Self::End => size >= 2,
+            Self::Piece => size >= 9,
+            Self::Record => true,
+        }
     }
-}
 
-fn within_others(operation: u8, args: &[u8]) -> bool
-    ensures { result ≡ other_args operation args.now }
-{
-    match operation {
-        NUMBER => refusal_of(byte(args, 0)).number() == byte(args, 0),
-        FILTER => number(args, 6) <= IDENTIFIERS,
-        ROW => number(args, 10) <= IDENTIFIERS,
-        LINE => (byte(args, 1) <= 4) & (byte(args, 11) <= 1),
-        LIST => number(args, 0) <= ROOM,
-        END => number(args, 0) <= ROOM,
-        EXCHANGE => (byte(args, 0) <= 63) & (byte(args, 2) <= 3),
-        START => (1 <= byte(args, 0)) & (byte(args, 0) <= 3),
-        _ => true,
+    // Whether the arguments are within what the tables say: formats, slots, kinds, sizes.
+    #[tactic(auto, using(crate::proofs::Named::refusal_is_read), unfolding(crate::specs::Operations::station_args, crate::specs::Operations::other_args, crate::specs::Operations::ruled, crate::specs::Operations::among, format::specs::Tests::all_true, format::specs::Tests::all_after))]
+    fn admits(self, args: &[u8]) -> bool
+        ensures { result ≡ station_args (number_of self) args.now (other_args (number_of self) args.now) }
+    {
+        match self {
+            Self::New | Self::Count | Self::Front => byte(args, 0) <= 1,
+            Self::Piece | Self::Judge => byte(args, 0) <= 1,
+            Self::Open => byte(args, 1) <= 1,
+            Self::Slot => byte(args, 0) <= 15 && byte(args, 1) <= 3 && byte(args, 5) <= 1,
+            Self::Lend => number(args, 0) <= BYTES,
+            Self::Store => number(args, 0) + number(args, 2) <= BYTES,
+            Self::Number => Refusal::try_from(byte(args, 0)).is_ok(),
+            Self::Filter => number(args, 6) <= IDENTIFIERS,
+            Self::Row => number(args, 10) <= IDENTIFIERS,
+            Self::Line => byte(args, 1) <= 4 && byte(args, 11) <= 1,
+            Self::List | Self::End => number(args, 0) <= ROOM,
+            Self::Exchange => byte(args, 0) <= 63 && byte(args, 2) <= 3,
+            Self::Start => (1..=3).contains(&byte(args, 0)),
+            Self::Close | Self::Receive | Self::Read | Self::Fill | Self::Record => true,
+            Self::Listing | Self::Listed | Self::Master | Self::Reply | Self::Timeout => true,
+            Self::Watch | Self::Heard | Self::Check => true,
+        }
     }
-}
 
-#[tactic(auto, unfolding(crate::specs::Operations::is_request, format::specs::Tests::all_true, format::specs::Tests::all_after))]
-pub fn is_request(operation: u8, args: &[u8]) -> bool
-    ensures { result ≡ is_request operation args.now }
-{
-    fits(operation, args.len()) & within(operation, args)
+    // Whether they make a request of the operation.
+    #[tactic(auto, unfolding(crate::specs::Operations::is_request, format::specs::Tests::all_true, format::specs::Tests::all_after))]
+    pub fn takes(self, args: &[u8]) -> bool
+        ensures { result ≡ is_request (number_of self) args.now }
+    {
+        self.fits(args.len()) && self.admits(args)
+    }
 }

@@ -1,12 +1,11 @@
 // The arguments of a request: bytes, numbers, formats, fields, keys and lines. A byte past the end
 // is 0, which spares the proofs of all places; operations has tested that there is none.
-ghost use Rattle.std.specs.Prelude.{◌≡◌, ◌<◌};
-ghost use Rattle.frame.specs.Layout.{flag_of};
+ghost use Rattle.std.specs.Prelude.{◌≡◌, ℕ, ◌+◌, ◌<◌, slice_index};
 ghost use Rattle.calls_program.specs.Requests.{byte_at, number2_at, number4_at, number8_at, bytes_between, bytes_from, format_named, fields_at, key_at};
-ghost use Rattle.calls_program.specs.Requests.{kind_named, refusal_named, EachNamed, answer_of_line, frame_of_line, line_of};
+ghost use Rattle.calls_program.specs.Requests.{refusal_named, EachNamed, answer_of_line, frame_of_line, line_of};
 
-use format::{Fields, Flag, Format, Refusal};
-use master::Kind;
+use format::{Fields, Format, Refusal};
+use frame::flag_of;
 use slot::Key;
 use stream::Answer;
 use trace::Line;
@@ -15,10 +14,7 @@ use trace::Line;
 pub fn byte(args: &[u8], at: usize) -> u8
     ensures { result ≡ byte_at args.now at }
 {
-    if at < args.len() {
-        return args[at];
-    }
-    0
+    args.get(at).copied().unwrap_or(0)
 }
 
 // What stands between two places; nothing if the second is past the end.
@@ -26,20 +22,27 @@ pub fn byte(args: &[u8], at: usize) -> u8
 pub fn part(args: &[u8], from: usize, to: usize) -> &[u8]
     ensures { result.now ≡ bytes_between args.now from to }
 {
-    if to > args.len() {
-        return &args[0..0];
-    }
-    if from > to {
-        return &args[0..0];
-    }
-    &args[from..to]
+    args.get(from..to).unwrap_or(&[])
 }
 
 // All from a place on.
 pub fn rest(args: &[u8], from: usize) -> &[u8]
     ensures { result.now ≡ bytes_from args.now from }
 {
-    part(args, from, args.len())
+    args.get(from..).unwrap_or(&[])
+}
+
+// So many bytes from a place on.
+#[tactic(auto, using(crate::proofs::Steps::copied_more))]
+pub fn bytes<const N: usize>(args: &[u8], at: usize) -> [u8; N]
+    ensures { (i : ℕ) → i < N → slice_index result i ≡ byte_at args.now (at + i) }
+{
+    let rest = rest(args, at);
+    let mut bytes = [0; N];
+    for (i, place) in bytes.iter_mut().enumerate() {
+        *place = byte(rest, i);
+    }
+    bytes
 }
 
 // The two-byte number at a place.
@@ -47,136 +50,86 @@ pub fn number(args: &[u8], at: usize) -> usize
     ensures upper_bound { result < 65536 }
     ensures value { result ≡ number2_at args.now at }
 {
-    if at >= args.len() {
-        return 0;
-    }
-    let high = byte(args, at) as usize;
-    let low = byte(args, at + 1) as usize;
-    high * 256 + low
+    usize::from(u16::from_be_bytes(bytes(args, at)))
 }
 
 // The four-byte number at a place.
 #[tactic(auto, unfolding(crate::specs::Requests::number4_at))]
-pub fn word(args: &[u8], at: u16) -> u32
+pub fn word(args: &[u8], at: usize) -> u32
     ensures { result ≡ number4_at args.now at }
 {
-    let at = at as usize;
-    let high = number(args, at) as u32;
-    let low = number(args, at + 2) as u32;
-    high * 65536 + low
+    u32::from_be_bytes(bytes(args, at))
 }
 
 // The eight-byte number at a place.
-#[tactic(auto, unfolding(crate::specs::Requests::number8_at))]
-pub fn long(args: &[u8], at: u8) -> u64
+#[tactic(auto, unfolding(crate::specs::Requests::number8_at, crate::specs::Requests::number4_at))]
+pub fn long(args: &[u8], at: usize) -> u64
     ensures { result ≡ number8_at args.now at }
 {
-    let at = at as u16;
-    let high = word(args, at) as u64;
-    let low = word(args, at + 4) as u64;
-    high * 4294967296 + low
+    u64::from_be_bytes(bytes(args, at))
 }
 
 // The format of a byte that is at most 1.
-#[tactic(auto, unfolding(crate::specs::Requests::format_named))]
+#[tactic(auto, using(crate::proofs::Named::format_read), unfolding(crate::specs::Requests::format_named))]
 pub fn format_of(code: u8) -> Format
     ensures { result ≡ format_named code }
 {
-    if code == 0 {
-        return Format::Extended;
-    }
-    Format::Standard
+    Format::try_from(code).unwrap_or(Format::Standard)
 }
 
-// The five bytes from a place on, as they are; a standard identifier has only three fields.
+// The fields of a format, of five bytes as they are; a standard identifier has only three.
 #[tactic(auto, unfolding(crate::specs::Requests::fields_at))]
-pub fn fields(args: &[u8], at: u16, format: Format) -> Fields
+fn fields_of(bytes: [u8; 5], format: Format) -> Fields
+    ensures { result ≡ fields_at bytes 0 format }
+{
+    match format {
+        Format::Extended => {
+            let [priority, source, group, destination, function] = bytes;
+            Fields::Extended {
+                priority,
+                source,
+                group,
+                destination,
+                function,
+            }
+        }
+        Format::Standard => {
+            let [priority, address, side, ..] = bytes;
+            Fields::Standard {
+                priority,
+                address,
+                side,
+            }
+        }
+    }
+}
+
+// The fields from a place on.
+#[tactic(auto, unfolding(crate::specs::Requests::fields_at))]
+pub fn fields(args: &[u8], at: usize, format: Format) -> Fields
     ensures { result ≡ fields_at args.now at format }
 {
-    let at = at as usize;
-    match format {
-        Format::Extended => Fields::Extended {
-            priority: byte(args, at),
-            source: byte(args, at + 1),
-            group: byte(args, at + 2),
-            destination: byte(args, at + 3),
-            function: byte(args, at + 4),
-        },
-        Format::Standard => Fields::Standard {
-            priority: byte(args, at),
-            address: byte(args, at + 1),
-            side: byte(args, at + 2),
-        },
-    }
+    fields_of(bytes(args, at), format)
 }
 
 // A key: bus, format and five fields, from a place on.
-#[tactic(auto, unfolding(crate::specs::Requests::key_at))]
-pub fn key(args: &[u8], at: u8) -> Key
+#[tactic(auto, unfolding(crate::specs::Requests::key_at, crate::specs::Requests::fields_at))]
+pub fn key(args: &[u8], at: usize) -> Key
     ensures { result ≡ key_at args.now at }
 {
-    let bus = byte(args, at as usize);
-    let format = format_of(byte(args, at as usize + 1));
-    let fields = fields(args, at as u16 + 2, format);
+    let [bus, format, a, b, c, d, e] = bytes::<7>(args, at);
     Key {
-        bus: bus,
-        fields: fields,
-    }
-}
-
-// The kind of exchange of a byte that is 1 to 3.
-#[tactic(auto, unfolding(crate::specs::Requests::kind_named))]
-pub fn kind_of(code: u8) -> Kind
-    ensures { result ≡ kind_named code }
-{
-    match code {
-        1 => Kind::Poll,
-        2 => Kind::DataBlock,
-        _ => Kind::Command,
-    }
-}
-
-#[tactic(auto, unfolding(frame::specs::Layout::flag_of))]
-fn flag_of(code: u8) -> Flag
-    ensures { result ≡ flag_of code }
-{
-    match code {
-        0 => Flag::Middle,
-        1 => Flag::Start,
-        2 => Flag::End,
-        _ => Flag::Single,
+        bus,
+        fields: fields_of([a, b, c, d, e], format_of(format)),
     }
 }
 
 // The refusal of a number; one that is no refusal's is read as STATE.
-#[tactic(auto, unfolding(crate::specs::Requests::refusal_named))]
+#[tactic(auto, using(crate::proofs::Named::refusal_read), unfolding(crate::specs::Requests::refusal_named))]
 pub fn refusal_of(number: u8) -> Refusal
     ensures { result ≡ refusal_named number }
 {
-    match number {
-        1 => Refusal::Length,
-        2 => Refusal::Form,
-        3 => Refusal::Remote,
-        4 => Refusal::Count,
-        5 => Refusal::Piece,
-        6 => Refusal::Orphan,
-        7 => Refusal::Step,
-        8 => Refusal::Long,
-        9 => Refusal::Field,
-        10 => Refusal::Size,
-        11 => Refusal::Index,
-        12 => Refusal::Room,
-        13 => Refusal::Store,
-        14 => Refusal::Taken,
-        15 => Refusal::Full,
-        16 => Refusal::Closed,
-        17 => Refusal::NoPacket,
-        18 => Refusal::Busy,
-        19 => Refusal::Idle,
-        20 => Refusal::NotAwaited,
-        25 => Refusal::Surplus,
-        _ => Refusal::State,
-    }
+    Refusal::try_from(number).unwrap_or(Refusal::State)
 }
 
 // It does nothing: its contract ties it to its proof that every refusal has a place above.
@@ -193,9 +146,9 @@ fn answer_in(args: &[u8]) -> Result<Answer, Refusal>
     match byte(args, 20) {
         1 => Ok(Answer::Packet {
             length: long(args, 21) as usize,
-            broke: broke,
+            broke,
         }),
-        2 => Ok(Answer::Kept { broke: broke }),
+        2 => Ok(Answer::Kept { broke }),
         3 => Ok(Answer::Filtered),
         _ => Err(refusal_of(byte(args, 28))),
     }
@@ -205,17 +158,14 @@ fn answer_in(args: &[u8]) -> Result<Answer, Refusal>
 fn frame_in(args: &[u8]) -> Line
     ensures { result ≡ frame_of_line args.now }
 {
-    let fields = fields(args, 12, format_of(byte(args, 11)));
-    let flag = flag_of(byte(args, 17));
-    let answer = answer_in(args);
     Line::Frame {
         ordinal: long(args, 2),
         bus: byte(args, 10),
-        fields: fields,
-        flag: flag,
+        fields: fields(args, 12, format_of(byte(args, 11))),
+        flag: flag_of(byte(args, 17)),
         number: byte(args, 18),
         count: byte(args, 19),
-        answer: answer,
+        answer: answer_in(args),
     }
 }
 
@@ -224,22 +174,16 @@ fn frame_in(args: &[u8]) -> Line
 pub fn line_in(args: &[u8]) -> Line
     ensures { result ≡ line_of args.now }
 {
+    let ordinal = long(args, 2);
     match byte(args, 1) {
         0 => Line::Header,
         1 => frame_in(args),
-        2 => {
-            let name = refusal_of(byte(args, 28));
-            Line::Refused {
-                ordinal: long(args, 2),
-                bus: byte(args, 10),
-                name: name,
-            }
-        }
-        3 => Line::Stopped {
-            ordinal: long(args, 2),
+        2 => Line::Refused {
+            ordinal,
+            bus: byte(args, 10),
+            name: refusal_of(byte(args, 28)),
         },
-        _ => Line::Records {
-            count: long(args, 2),
-        },
+        3 => Line::Stopped { ordinal },
+        _ => Line::Records { count: ordinal },
     }
 }

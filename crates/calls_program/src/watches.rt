@@ -1,95 +1,55 @@
 // A watch over the silence of both buses.
 ghost use Rattle.std.specs.Prelude.{◌≡◌};
-ghost use Rattle.copying.specs.Copy.{copied};
-ghost use Rattle.watch.specs.Watching.{new_watch, hearing, checking};
+ghost use Rattle.watch.specs.Watching.{hearing, checking};
 ghost use Rattle.calls_program.specs.Requests.{byte_at, number4_at};
-ghost use Rattle.calls_program.specs.Responses.{answer_bytes, outcome_bytes, out_with_watch, resets_of};
-ghost use Rattle.calls_program.specs.Operations.{watch_done};
+ghost use Rattle.calls_program.specs.Responses.{responds, out_with_watch};
+ghost use Rattle.calls_program.specs.Operations.{as_renewed, as_heard, as_checked};
 
-use crate::operations::{HEARD, WATCH};
+use crate::bench::Bench;
 use crate::request::{byte, word};
-use crate::response::{put_outcome, put_value, put_word};
+use crate::response::{put_outcome, put_value};
+use copying::copy_in;
 use watch::Watch;
 
 // The size of an answer with the last times.
 const WITH_TIMES: usize = 12;
 
-// The watch after a request, and the size of the response.
-#[derive(Clone, Copy)]
-pub struct Done {
-    pub watch: Watch,
-    pub size: usize,
-}
-
 // The response to a call: the answer, which is written already, and the last times.
 #[tactic(auto, unfolding(crate::specs::Responses::out_with_watch))]
-fn changed(watch: Watch, out: &mut [u8]) -> Done
-    ensures value { result ≡ record { watch = watch; size = 12 } }
-    ensures out_after { out.new ≡ out_with_watch out.old watch }
+fn put_watch(watch: &Watch, out: &mut [u8]) -> usize
+    ensures { responds result out.new ≡ responds 12 (out_with_watch out.old watch.now) }
 {
-    put_word(out, 4, watch.a);
-    put_word(out, 8, watch.b);
-    Done {
-        watch: watch,
-        size: WITH_TIMES,
+    copy_in(out, 4, &watch.a.to_be_bytes());
+    copy_in(out, 8, &watch.b.to_be_bytes());
+    WITH_TIMES
+}
+
+impl Bench {
+    ghost use Rattle.calls_program.specs.Benches.{as_bench, with_watch};
+
+    pub fn renew_watch(&mut self, args: &[u8], out: &mut [u8]) -> usize
+        ensures { as_bench self.new result out.new ≡ with_watch self.old (as_renewed (number4_at args.now 0)) out.old }
+    {
+        self.watch = Watch::new(word(args, 0));
+        put_value(out, 0);
+        put_watch(&self.watch, out)
     }
-}
 
-fn renew(args: &[u8], out: &mut [u8]) -> Done
-    ensures value { result ≡ record { watch = new_watch (number4_at args.now 0); size = 12 } }
-    ensures out_after { out.new ≡ out_with_watch (copied out.old 0 (answer_bytes 5 0 0)) (new_watch (number4_at args.now 0)) }
-{
-    put_value(out, 0);
-    changed(Watch::new(word(args, 0)), out)
-}
-
-fn hear(watch: Watch, args: &[u8], out: &mut [u8]) -> Done
-    ensures value { result ≡ record { watch = (hearing watch (byte_at args.now 0) (number4_at args.now 1)).watch; size = 12 } }
-    ensures out_after { out.new ≡ out_with_watch (copied out.old 0 (outcome_bytes (hearing watch (byte_at args.now 0) (number4_at args.now 1)).answer)) (hearing watch (byte_at args.now 0) (number4_at args.now 1)).watch }
-{
-    let r = watch.heard(byte(args, 0), word(args, 1));
-    let answer = r.answer;
-    let next = r.watch;
-    put_outcome(out, answer);
-    changed(next, out)
-}
-
-// The buses to reset as one number.
-#[tactic(auto, unfolding(crate::specs::Responses::resets_of))]
-fn resets(a: bool, b: bool) -> usize
-    ensures { result ≡ resets_of a b }
-{
-    if a {
-        if b {
-            return 3;
-        }
-        return 1;
+    pub fn hear(&mut self, args: &[u8], out: &mut [u8]) -> usize
+        ensures { as_bench self.new result out.new ≡ with_watch self.old (as_heard (hearing self.old.watch (byte_at args.now 0) (number4_at args.now 1))) out.old }
+    {
+        let heard = self.watch.heard(byte(args, 0), word(args, 1));
+        self.watch = heard.watch;
+        put_outcome(out, heard.answer);
+        put_watch(&self.watch, out)
     }
-    if b {
-        return 2;
-    }
-    0
-}
 
-fn check(watch: Watch, args: &[u8], out: &mut [u8]) -> Done
-    ensures value { result ≡ record { watch = (checking watch (number4_at args.now 0)).watch; size = 12 } }
-    ensures out_after { out.new ≡ out_with_watch (copied out.old 0 (answer_bytes 5 (resets_of (checking watch (number4_at args.now 0)).a (checking watch (number4_at args.now 0)).b) 0)) (checking watch (number4_at args.now 0)).watch }
-{
-    let r = watch.check(word(args, 0));
-    let next = r.watch;
-    put_value(out, resets(r.a, r.b));
-    changed(next, out)
-}
-
-// Does what a request on a watch asks for, and writes the response.
-#[tactic(auto, unfolding(crate::specs::Operations::watch_done))]
-pub fn respond(watch: Watch, operation: u8, args: &[u8], out: &mut [u8]) -> Done
-    ensures value { result ≡ record { watch = (watch_done operation args.now watch).watch; size = 12 } }
-    ensures out_after { out.new ≡ out_with_watch (copied out.old 0 (watch_done operation args.now watch).answer) (watch_done operation args.now watch).watch }
-{
-    match operation {
-        WATCH => renew(args, out),
-        HEARD => hear(watch, args, out),
-        _ => check(watch, args, out),
+    pub fn check(&mut self, args: &[u8], out: &mut [u8]) -> usize
+        ensures { as_bench self.new result out.new ≡ with_watch self.old (as_checked (checking self.old.watch (number4_at args.now 0))) out.old }
+    {
+        let checked = self.watch.check(word(args, 0));
+        self.watch = checked.watch;
+        put_value(out, checked.resets());
+        put_watch(&self.watch, out)
     }
 }

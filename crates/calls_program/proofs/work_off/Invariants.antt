@@ -1,14 +1,8 @@
 -- The work so far, with what is left of the turns, comes to the work of all turns.
-use Rattle.std.proofs.Common.{◌≡◌, length}
-use Rattle.calls_program.specs.Working.{as_work, worked}
+use Rattle.std.proofs.Common.{◌≡◌, ◌-◌, length}
+use Rattle.calls_program.specs.Working.{as_work, worked, worked_off}
 use Rattle.calls_program.proofs.work_off.Given as goal
 
-abbrev pub invariant-loop-turns : goal.invariant-loop-turns
-invariant-loop-turns l =
-    (length l.bytes ≡ length l.fn.bytes)
-    × (length l.output ≡ length l.fn.output)
-    × (worked l.turns (as_work l.work l.bytes l.output) l.input
-    ≡ worked l.initial.turns (as_work l.initial.work l.fn.bytes l.fn.output) l.input)
-
-abbrev pub decreases-loop-turns : goal.decreases-loop-turns
-decreases-loop-turns l = l.turns
+abbrev pub invariant-loop : goal.invariant-loop
+invariant-loop l =
+    worked (length l.input - l.counter) (as_work l.bench l.work l.output) l.input ≡ worked_off l.fn.bench l.input l.fn.output

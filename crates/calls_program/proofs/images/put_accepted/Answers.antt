@@ -1,17 +1,15 @@
 -- The bytes were lent to the call from the output's start on.
-use Rattle.std.proofs.Common.{◌≡◌, ◌-◌, sym, ap, ◌∙◌, arith, le-ltb}
+use Rattle.std.proofs.Common.{◌≡◌, length, sym, ap, ◌∙◌, le-ltb}
 use Rattle.copying.specs.Copy.{written}
-use Rattle.calls_program.specs.Images.{accepted_done}
-use Rattle.calls_program.proofs.Parts.{part_size, part_back}
+use Rattle.calls_program.specs.Responses.{responds}
+use Rattle.calls_program.proofs.Parts.{head_size, head_written}
 use Rattle.calls_program.proofs.images.put_accepted.Goals as goal
 
-pub returns-clause-out_after : goal.returns-clause-out_after
-unfolding accepted_done
-returns-clause-out_after c =
+pub returns : goal.returns
+returns g c = λ test is.
+    let n = c.args.n in
     let out = c.args.out.now in
-    let n = c.number-n in
-    let z : n.result - 0 ≡ n.result = omega arith in
-    let s = part_size out 0 n.result (omega arith) in
-    let back = part_back out 0 n.result c.accepted.new.bytes (rw z at c.accepted.auto.bytes ∙ s) in
-    simp (sym n.ensures.value, sym c.number.ensures.value, le-ltb _ _ c.if-n-out.false)
-    (rw (z, back) (rw (z, s) at (ap (written out 0) c.accepted.ensures)))
+    let s = head_size out n c.if-n-out.false in
+    let e = rw (sym s) at (c.accepted.ensures test is) in
+    let m : length c.accepted.new.bytes ≡ n = c.accepted.auto.bytes ∙ sym s in
+    rw (le-ltb _ _ c.if-n-out.false) (ap (responds n) (head_written out c.accepted.new.bytes n m ∙ ap (written out 0) e))

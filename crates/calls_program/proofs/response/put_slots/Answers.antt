@@ -25,15 +25,12 @@ none_left out slots i e = rw (e, drop-length)
 pub loop-i-preserved : goal.loop-i-preserved
 loop-i-preserved c =
     let l = c.loop-i in
-    let slots = c.args.station.slots in
-    let sixteen : length slots ≡ 16 = search rules in
-    let h : l.i < length slots = omega arith in
-    (search rules, search rules, rw c.put_slot.ensures (one_more l.out slots l.i h ∙ l.invariant.2))
+    let slots = c.args.slots.now in
+    rw (c.copy_in.ensures.target_after, c.slot_bytes.ensures) (one_more l.out slots l.i (search rules) ∙ l.invariant)
 
 pub returns : goal.returns
 returns c =
     let l = c.loop-i in
-    let slots = c.args.station.slots in
-    let sixteen : length slots ≡ 16 = search rules in
-    let all : l.i ≡ length slots = omega arith in
-    sym (none_left l.out slots l.i all) ∙ l.invariant.2
+    let slots = c.args.slots.now in
+    let all : l.i ≡ length slots = search rules in
+    sym (none_left l.out slots l.i all) ∙ l.invariant
