@@ -2,7 +2,7 @@
 // the count.
 #![tactic(auto)]
 
-ghost use Rattle.std.specs.Prelude.{◌≡◌, ◌≤◌, false, length, take};
+ghost use Rattle.std.specs.Prelude.{◌≡◌, ◌≤◌, length, take, IfSome};
 ghost use Rattle.format.specs.Outputs.{output_after};
 ghost use Rattle.lister.specs.Listing as listings;
 
@@ -12,11 +12,10 @@ use std::io::{Input, Print};
 use trace::Line;
 
 // Between two reads: the listing, and how many bytes of the input are held that are no whole record.
-#[derive(Clone, Copy)]
+#[derive(Clone, Copy, Debug, PartialEq, Eq)]
 struct Session {
     listing: Listing,
     held: usize,
-    going: bool,
 }
 
 // Writes a line or lines that stand at the head of the output, and answers whether they were.
@@ -27,24 +26,12 @@ fn write(rt: &(impl Print + Eprint), answer: Result<usize, Refusal>, output: &[u
     }
 }
 
-fn ended(listing: Listing) -> Session
-    ensures { result ≡ record { listing = listing; held = 0; going = false } }
-{
-    Session {
-        listing: listing,
-        held: 0,
-        going: false,
-    }
-}
-
 // The last lines, where no more comes than what is left of the input.
-fn end(rt: &(impl Print + Eprint), listing: Listing, rest: &[u8], output: &mut [u8]) -> Session
-    ensures value { result ≡ record { listing = listing; held = 0; going = false } }
-    ensures output_after { output.new ≡ output_after (listings.ending listing rest.now (length output.old)) output.old }
+fn end(rt: &(impl Print + Eprint), listing: Listing, rest: &[u8], output: &mut [u8])
+    ensures { output.new ≡ output_after (listings.ending listing rest.now (length output.old)) output.old }
 {
     let answer = listing.end(rest, output);
     write(rt, answer, output);
-    ended(listing)
 }
 
 // Reads on. Where no more comes, the listing ends with what is held.
@@ -54,81 +41,76 @@ fn more(
     input: &mut [u8],
     held: usize,
     output: &mut [u8],
-) -> Session
+) -> Option<Session>
     requires { held ≤ length input.old }
-    ensures held_in_bounds { result.held ≤ length input.old }
-    ensures listing_value { result.listing ≡ listing }
+    ensures held_in_bounds { IfSome result (λ next. next.held ≤ length input.old) }
+    ensures listing_value { IfSome result (λ next. next.listing ≡ listing) }
 {
     let all = pipes::read_on(rt, input, held);
     if all == held {
-        return end(rt, listing, &input[0..held], output);
+        end(rt, listing, &input[..held], output);
+        return None;
     }
-    Session {
-        listing: listing,
-        held: all,
-        going: true,
-    }
+    Some(Session { listing, held: all })
 }
 
 // Lists what is held, writes the lines, and reads on where all whole records are listed. So no line
-// waits for more input.
+// waits for more input. None is the session's end.
 fn turn(
     rt: &(impl Input + Print + Eprint),
     session: Session,
     store: &mut [u8],
     input: &mut [u8],
     output: &mut [u8],
-) -> Session
+) -> Option<Session>
     requires { session.held ≤ length input.old }
-    ensures held_in_bounds { result.held ≤ length input.old }
-    ensures listing_value { result.listing ≡ (listings.listing session.listing store.old (take session.held input.old) output.old).listing }
+    ensures held_in_bounds { IfSome result (λ next. next.held ≤ length input.old) }
+    ensures listing_value { IfSome result (λ next. next.listing ≡ (listings.listing session.listing store.old (take session.held input.old) output.old).listing) }
     ensures store_after { store.new ≡ (listings.listing session.listing store.old (take session.held input.old) output.old).store }
 {
-    let listing = session.listing;
-    let held = session.held;
+    let Session { listing, held } = session;
     let listed = listing.list(store, &input[..held], output);
     let listing = listed.listing;
-    let why = listed.why;
     // No one is there to read it, or it cannot be written.
     if !pipes::write_out(rt, output, listed.written) {
-        return ended(listing);
+        return None;
     }
-    let left = pipes::keep(input, listed.used, held);
-    match why {
-        Ok(Why::Input) => more(rt, listing, input, left, output),
-        Ok(Why::Room) => Session {
-            listing: listing,
-            held: left,
-            going: true,
-        },
-        Ok(Why::Damaged) => end(rt, listing, &input[0..left], output),
+    let held = pipes::keep(input, listed.used, held);
+    match listed.why {
+        Ok(Why::Input) => more(rt, listing, input, held, output),
+        Ok(Why::Room) => Some(Session { listing, held }),
+        Ok(Why::Damaged) => {
+            end(rt, listing, &input[..held], output);
+            None
+        }
         // Never: the listing stays sound (claim ListingStaysSound of lister), and the store has its size.
-        Err(_) => ended(listing),
+        Err(_) => None,
     }
 }
 
-// A proved loop has to end, and nothing says that the input does: the turns are counted down from
-// a number that no run uses up.
+// A proved loop has to end, and nothing says that the input does: the turns are counted up to a
+// number that no run comes to.
 fn list(rt: &(impl Input + Print + Eprint), store: &mut [u8], input: &mut [u8], output: &mut [u8]) {
     let answer = trace::write_line(Line::Header, output);
-    let is_headed = write(rt, answer, output);
-    let listing = Listing::new();
+    if !write(rt, answer, output) {
+        return;
+    }
     let mut session = Session {
-        listing: listing,
+        listing: Listing::new(),
         held: 0,
-        going: is_headed,
     };
-    let mut turns = u64::MAX;
-    while turns > 0 && session.going {
-        session = turn(rt, session, store, input, output);
-        turns -= 1;
+    for _ in 0..u64::MAX {
+        let Some(next) = turn(rt, session, store, input, output) else {
+            return;
+        };
+        session = next;
     }
 }
 
 // A record of 16 bytes has a line of 40 or so, so what is read at once is mostly written at once.
 fn main(rt: HostRuntime) {
-    let mut store = [0u8; 32768];
-    let mut input = [0u8; 65536];
-    let mut output = [0u8; 262144];
+    let mut store = [0; 32768];
+    let mut input = [0; 65536];
+    let mut output = [0; 262144];
     list(&rt, &mut store, &mut input, &mut output);
 }
