@@ -4,3 +4,4 @@ mod OneWord
 mod Byte
 mod Small
 mod Bounds
+mod Formats

@@ -267,9 +267,9 @@ reads state store slot =
 abbrev Tells : masters.MasterBytesAfter Told → Type 0
 Tells h = Within (BusUpTo 1) h.answer
 
-new_master_lem : (state : List ℕ) → UpTo 0 (masters.renew state).answer
+new_master : (state : List ℕ) → UpTo 0 (masters.renew state).answer
 unfolding masters.renew
-new_master_lem state =
+new_master state =
     either (λ (h : masters.MasterBytesAfter ℕ). UpTo 0 h.answer) (eqb (length state) 68) _ _ (omega arith) (a_refusal State)
 
 abbrev Gives : Master → Result exchanges.Step → Type 0
@@ -323,9 +323,9 @@ times_out state =
 on_watch : (most : ℕ) (state : List ℕ) (given : watches.WatchBytesAfter) → UpTo most given.answer → UpTo most (watches.on_state state given).answer
 on_watch most state given h = either (λ (g : watches.WatchBytesAfter). UpTo most g.answer) (watches.is_state state) _ _ h (a_refusal State)
 
-new_watch_lem : (state : List ℕ) (time : ℕ) → UpTo 0 (watches.renew state time).answer
+new_watch : (state : List ℕ) (time : ℕ) → UpTo 0 (watches.renew state time).answer
 unfolding watches.renew
-new_watch_lem state time =
+new_watch state time =
     either (λ (g : watches.WatchBytesAfter). UpTo 0 g.answer) (eqb (length state) 9) _ _ (omega arith) (a_refusal State)
 
 hears : (state : List ℕ) (bus time : ℕ) → UpTo 1 (watches.hearing state bus time).answer
@@ -354,11 +354,11 @@ small =
       closes = closes;
       receives = receives;
       reads = reads;
-      new_master_lem = new_master_lem;
+      new_master = new_master;
       starts = starts;
       replies = replies;
       times_out = times_out;
-      new_watch_lem = new_watch_lem;
+      new_watch = new_watch;
       hears = hears;
       checks = checked;
     }

@@ -55,12 +55,12 @@ pub record Small : Type 0 where
   pub receives : (state store : List ℕ) (bus : ℕ) (image : List ℕ) → Within (LengthUpTo 2048) (receive_in state store bus image).answer
   pub reads : (state store : List ℕ) (slot : ℕ) → UpTo 2048 (length_of (read_in state store slot))
   -- a master: 0 for a new one, buses 0 and 1
-  pub new_master_lem : (state : List ℕ) → UpTo 0 (masters.renew state).answer
+  pub new_master : (state : List ℕ) → UpTo 0 (masters.renew state).answer
   pub starts : (state : List ℕ) (kind node : ℕ) → Within (BusUpTo 1) (masters.starting state kind node).answer
   pub replies : (state : List ℕ) (bus node function : ℕ) → Within (BusUpTo 1) (masters.replying state bus node function).answer
   pub times_out : (state : List ℕ) → Within (BusUpTo 1) (masters.timing_out state).answer
   -- a watch: 0 for a new one, buses 0 and 1, and at a check 0 none, 1 A, 2 B, 3 both
-  pub new_watch_lem : (state : List ℕ) (time : ℕ) → UpTo 0 (watches.renew state time).answer
+  pub new_watch : (state : List ℕ) (time : ℕ) → UpTo 0 (watches.renew state time).answer
   pub hears : (state : List ℕ) (bus time : ℕ) → UpTo 1 (watches.hearing state bus time).answer
   pub checks : (state : List ℕ) (time : ℕ) → UpTo 3 (watches.checking state time).answer
 

@@ -1,4 +1,5 @@
 pub mod Answers
+pub mod Words
 pub mod Arguments
 pub mod Calls
 pub mod Claims
