@@ -84,6 +84,7 @@ fn key_fits(format: Format, number: u32) -> bool
     }
 }
 
+// No From here and below: neither the number nor Progress is a type of this crate.
 fn progress_of(number: u32) -> Progress
     ensures { result ≡ progress_from number }
 {

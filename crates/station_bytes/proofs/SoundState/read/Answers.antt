@@ -1,5 +1,5 @@
 -- `station_bytes::SoundState::read` meets its contract: each answer, by what was found out (Bytes).
-use Rattle.std.proofs.Common.{◌≡◌, ℕ, ◌<◌, get_or, subst, arith}
+use Rattle.std.proofs.Common.{◌≡◌, ℕ, ◌<◌, List, get_or, sym, ap, ◌∙◌, subst, arith}
 use Rattle.std.specs.Prelude.{Result, Ok, Err, Some, None, MatchResult}
 use Rattle.std.specs.Result.{result_ok}
 use Rattle.format.proofs.Tests.{each}
@@ -24,25 +24,25 @@ pub returns-in_err-format : goal.returns-in_err-format
 returns-in_err-format c =
     let s = (of_value _ _ c.try_into.result c.in_ok-state.ensures.value c.try_into.ensures.1).same in
     let e = of_error _ _ c.try_from.result c.in_err-format.ensures.value c.try_from.ensures in
-    rw c.from_residual-in_err-format.ensures (tested-format c.args.state.now (λ i. omega (arith, c.type_inv.state i)) (rw s at e.1.1))
+    rw c.from_residual-in_err-format.ensures (tested-format c.args.state.now (λ i. omega (arith, c.type_inv.state i)) (λ format q. e.1.1 format (q ∙ ap (λ (l : List ℕ). get_or l 128 0) (sym s))))
 
 pub returns-then-layout-ne-LAYOUT : goal.returns-then-layout-ne-LAYOUT
 returns-then-layout-ne-LAYOUT c =
     let s = (of_value _ _ c.try_into.result c.in_ok-state.ensures.value c.try_into.ensures.1).same in
-    tested-layout c.args.state.now (λ i. omega (arith, c.type_inv.state i)) (rw s at c.if-layout-ne-LAYOUT.true)
+    tested-layout c.args.state.now (λ i. omega (arith, c.type_inv.state i)) (λ q. c.if-layout-ne-LAYOUT.true (ap (λ (l : List ℕ). get_or l 129 0) s ∙ q))
 
 pub returns-in_err-codes : goal.returns-in_err-codes
 returns-in_err-codes c =
     let w = of_value _ _ c.try_into.result c.in_ok-state.ensures.value c.try_into.ensures.1 in
     let format = of_value _ _ c.try_from.result c.in_ok-format.ensures.value c.try_from.ensures in
     rw c.from_residual-in_err-codes.ensures
-    (tested-bad c.args.state.now (λ i. omega (arith, c.type_inv.state i)) w.long (rw w.same at c.if-layout-ne-LAYOUT.false) _ (rw w.same at format) _ (rw w.same at c.in_err-codes.ensures))
+    (tested-bad c.args.state.now (λ i. omega (arith, c.type_inv.state i)) w.long (ap (λ (l : List ℕ). get_or l 129 0) (sym w.same) ∙ c.if-layout-ne-LAYOUT.false) _ (format ∙ ap (λ (l : List ℕ). get_or l 128 0) w.same) _ (rw w.same at c.in_err-codes.ensures))
 
 pub returns-then-clash : goal.returns-then-clash
 returns-then-clash c =
     let w = of_value _ _ c.try_into.result c.in_ok-state.ensures.value c.try_into.ensures.1 in
     let format = of_value _ _ c.try_from.result c.in_ok-format.ensures.value c.try_from.ensures in
-    tested-clash c.args.state.now (λ i. omega (arith, c.type_inv.state i)) w.long (rw w.same at c.if-layout-ne-LAYOUT.false) _ (rw w.same at format) _
+    tested-clash c.args.state.now (λ i. omega (arith, c.type_inv.state i)) w.long (ap (λ (l : List ℕ). get_or l 129 0) (sym w.same) ∙ c.if-layout-ne-LAYOUT.false) _ (format ∙ ap (λ (l : List ℕ). get_or l 128 0) w.same) _
     (rw w.same at c.in_ok-codes.ensures) c.if-clash.ensures
 
 pub invariant_of-result : goal.invariant_of-result
@@ -50,8 +50,8 @@ invariant_of-result c =
     let w = of_value _ _ c.try_into.result c.in_ok-state.ensures.value c.try_into.ensures.1 in
     let state = c.args.state.now in
     let bytes : (i : ℕ) → get_or state i 0 < 256 = λ i. omega (arith, c.type_inv.state i) in
-    let layout = rw w.same at c.if-layout-ne-LAYOUT.false in
-    let format = rw w.same at (of_value _ _ c.try_from.result c.in_ok-format.ensures.value c.try_from.ensures) in
+    let layout = ap (λ (l : List ℕ). get_or l 129 0) (sym w.same) ∙ c.if-layout-ne-LAYOUT.false in
+    let format = of_value _ _ c.try_from.result c.in_ok-format.ensures.value c.try_from.ensures ∙ ap (λ (l : List ℕ). get_or l 128 0) w.same in
     let codes = rw w.same at c.in_ok-codes.ensures in
     let is = tested-good state bytes w.long layout _ format _ codes c.if-clash.ensures in
     rw w.same
