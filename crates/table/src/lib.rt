@@ -36,7 +36,7 @@ pub fn receive(
     turn.answer
 }
 
-// A table of one's own, lent to receive and handed back.
+// A table of one's own, lent to receive and handed back. No HandedBack of station: a table has no format to hand back.
 #[derive(Clone, Copy, Debug, PartialEq, Eq)]
 pub struct Lent {
     pub table: [Slot; 16],
