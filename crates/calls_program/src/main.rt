@@ -86,7 +86,7 @@ fn work_off(bench: &mut Bench, input: &[u8], output: &mut [u8]) -> Work
 
 // Writes the responses, and reads on after what is left; answers how much is held then, and none at
 // the session's end. Where a whole request is left, as the output had no room, it does not read: its
-// response must not wait for more input.
+// response must not wait for more input. How much is held stands beside the input, as pipes has it.
 #[tactic(auto, using(crate::proofs::Working::gone_more))]
 fn go_on(
     rt: &(impl Input + Print + Eprint),

@@ -1,5 +1,6 @@
 // The arguments of a request: bytes, numbers, formats, fields, keys and lines. A byte past the end
-// is 0, which spares the proofs of all places; operations has tested that there is none.
+// is 0, which spares the proofs of all places; operations has tested that there is none. A place
+// stands beside the bytes, as PROTOCOL.md tells it; a reader that moves on would hide which it is.
 ghost use Rattle.std.specs.Prelude.{◌≡◌, ℕ, ◌+◌, ◌<◌, slice_index};
 ghost use Rattle.calls_program.specs.Requests.{byte_at, number2_at, number4_at, number8_at, bytes_between, bytes_from, format_named, fields_at, key_at};
 ghost use Rattle.calls_program.specs.Requests.{refusal_named, EachNamed, answer_of_line, frame_of_line, line_of};
@@ -69,7 +70,7 @@ pub fn long(args: &[u8], at: usize) -> u64
     u64::from_be_bytes(bytes(args, at))
 }
 
-// The format of a byte that is at most 1.
+// The format of a byte that is at most 1. It is read by TryFrom; what is none has a meaning here.
 #[tactic(auto, using(crate::proofs::Named::format_read), unfolding(crate::specs::Requests::format_named))]
 pub fn format_of(code: u8) -> Format
     ensures { result ≡ format_named code }
@@ -124,7 +125,7 @@ pub fn key(args: &[u8], at: usize) -> Key
     }
 }
 
-// The refusal of a number; one that is no refusal's is read as STATE.
+// The refusal of a number; one that is no refusal's is read as STATE, which TryFrom does not say.
 #[tactic(auto, using(crate::proofs::Named::refusal_read), unfolding(crate::specs::Requests::refusal_named))]
 pub fn refusal_of(number: u8) -> Refusal
     ensures { result ≡ refusal_named number }

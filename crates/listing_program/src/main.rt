@@ -34,7 +34,8 @@ fn end(rt: &(impl Print + Eprint), listing: Listing, rest: &[u8], output: &mut [
     write(rt, answer, output);
 }
 
-// Reads on. Where no more comes, the listing ends with what is held.
+// Reads on. Where no more comes, the listing ends with what is held: a number beside the input, as
+// pipes has it.
 fn more(
     rt: &(impl Input + Print + Eprint),
     listing: Listing,

@@ -1,5 +1,5 @@
 -- The word of what a call answers (Answers), by the type of what it answers where it does not refuse.
-use Rattle.std.specs.Prelude.{ℕ, ◌≡◌, refl, Ok, Err}
+use Rattle.std.specs.Prelude.{ℕ, ◌≡◌, refl, Err}
 use Rattle.format.specs.declared.Refusal.{Refusal}
 use Rattle.format.specs.Refusals.{Returned, number}
 use Rattle.format.specs.Refusals as outcomes

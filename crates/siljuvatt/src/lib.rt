@@ -39,6 +39,7 @@ trait Word {
         ensures { result ≡ said (Ok self) };
 }
 
+// Below 2^16, and no cast alone: that no call's number is larger is a claim (Small), and no type.
 fn low(n: usize) -> u32
     ensures { result ≡ number_word n }
 {
@@ -107,7 +108,8 @@ fn broke_word(broke: bool) -> u32
     0x100_0000 * u32::from(broke)
 }
 
-// A check's answer: bit 25 for bus A, bit 26 for bus B. No refusal has these bits.
+// A check's answer: bit 25 for bus A, bit 26 for bus B. No refusal has these bits. It is no Word: its
+// number is a usize, as a count is.
 fn reset_word(outcome: Result<usize, Refusal>) -> u32
     ensures { result ≡ reset_word (outcomes.meaning outcome) }
 {
@@ -143,7 +145,7 @@ fn fields_of(format: u8, bytes: &[u8]) -> Fields
     }
 }
 
-// The number of the format of a station; 0 where there are too few bytes to be one.
+// The number of the format of a station, as C hands one in; 0 where there are too few bytes to be one.
 fn format_in(state: &[u8]) -> u8
     ensures { result ≡ get_or state.now 128 0 }
 {
