@@ -143,7 +143,7 @@ abbrev pub responds : (size : ℕ) (output : List ℕ) → Responded
 responds size output = record { size = size; output = output }
 
 -- one of so many bytes; where the output has no room for it there is none, which does not happen: none is longer than 40,000 bytes
--- (bench::respond), and main.rt has room for so many
+-- (Bench::respond), and main.rt has room for so many
 abbrev pub room_for : (size : ℕ) → (out with : List ℕ) → Responded
 room_for size out with = cond (nat_lt (length out) size) (responds 0 out) (responds size with)
 
