@@ -58,8 +58,18 @@ pub fn format_of(number: u8) -> Format
     Format::try_from(number).unwrap_or(Format::Standard)
 }
 
-// Whether the number is that of a progress that a sound stream of the format has.
+// Whether the number is that of a progress that a sound stream of the format has: a call for each format, so that the
+// compiler knows what it divides by, and makes vectors of the loop over the records.
 fn progress_fits(format: Format, number: u32) -> bool
+    ensures { result ≡ progress_fits format number }
+{
+    match format {
+        Format::Extended => is_progress(Format::Extended, number),
+        Format::Standard => is_progress(Format::Standard, number),
+    }
+}
+
+fn is_progress(format: Format, number: u32) -> bool
     ensures { result ≡ progress_fits format number }
 {
     let kind = number / 65536;

@@ -1,6 +1,6 @@
--- `station_bytes::progress_fits` meets its contract (Records).
+-- `station_bytes::is_progress` meets its contract (Records).
 use Rattle.station_bytes.proofs.Records.{progress_fits_lem}
-use Rattle.station_bytes.proofs.progress_fits.Goals as goal
+use Rattle.station_bytes.proofs.is_progress.Goals as goal
 
 pub returns : goal.returns
 returns c =
