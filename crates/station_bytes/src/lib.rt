@@ -27,7 +27,7 @@ use stream::{Answer, Progress};
 use words::{word_bytes, word_of};
 
 // The bytes of a state, and the number of their layout, which is the last of them.
-#[derive(Clone, Copy)]
+#[derive(Clone, Copy, Debug, PartialEq, Eq)]
 pub struct State;
 
 impl State {
@@ -116,7 +116,8 @@ fn progress_number(progress: Progress) -> u32
     }
 }
 
-// The two numbers of a slot. Both are 0 if it is closed.
+// The two numbers of a slot. Both are 0 if it is closed. What takes a slot's number asks for one below 16: a type for
+// that would be made anew in each turn of the loops over the records, which say it already.
 #[derive(Clone, Copy)]
 struct Record {
     key: u32,
