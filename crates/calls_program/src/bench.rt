@@ -8,7 +8,7 @@ use crate::stations::Desk;
 use master::Master;
 use watch::Watch;
 
-#[derive(Drop)]
+#[derive(Clone, Copy)]
 pub struct Bench {
     pub desk: Desk,
     pub master: Master,

@@ -23,7 +23,7 @@ pub enum Front {
 
 // The station; the bytes, of which the first are lent to its calls as their store, and how many
 // are; the front that receives; and how many records a listing in its slots has listed.
-#[derive(Drop)]
+#[derive(Clone, Copy)]
 pub struct Desk {
     pub station: Station,
     pub bytes: [u8; BYTES],

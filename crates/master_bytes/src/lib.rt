@@ -8,6 +8,7 @@ ghost use Rattle.master_bytes.specs.Calls as calls;
 ghost use Rattle.master_bytes.specs.Claims as claims;
 ghost use Rattle.master_bytes.specs.Examples.{Examples};
 
+use copying::copy_in;
 use format::Refusal;
 use master::{Answer, Exchange, Kind, Master, Moved};
 
@@ -53,14 +54,12 @@ fn last_bytes(activity: Option<Exchange>) -> [u8; 4]
     }
 }
 
-#[tactic(auto, unfolding(crate::specs::States::state_bytes))]
 fn put(state: &mut [u8], master: Master)
     requires { length state.old ≡ 68 }
     ensures { state.new ≡ state_bytes master }
 {
-    let (buses, last) = state.split_at_mut(64);
-    buses.copy_from_slice(&master.chosen);
-    last.copy_from_slice(&last_bytes(master.activity));
+    copy_in(state, 0, &master.chosen);
+    copy_in(state, 64, &last_bytes(master.activity));
 }
 
 // Answers as a call does, and writes the master that it hands back; of a refusal, whose master is in the bytes

@@ -139,7 +139,7 @@ impl Station {
     {
         let progress = progress_in(self.stream_at(at));
         match step_area(self.format, progress, at, head, bytes, store) {
-            Err(name) => unchanged(Err(name)),
+            Err(refusal) => unchanged(Err(refusal)),
             Ok(next) => {
                 let slot = open_slot(key, next.progress);
                 Turn {
@@ -256,7 +256,8 @@ impl Station {
         if !sound(self.format, self.slots) {
             return Err(Refusal::State);
         }
-        if store.len() != Store::SIZE {
+        let lent = store.len();
+        if lent != Store::SIZE {
             return Err(Refusal::Store);
         }
         let Some(stream) = self.stream_at(i) else {

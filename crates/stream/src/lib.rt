@@ -1,12 +1,11 @@
 // One stream: what a frame of its key does to its progress and to its area.
 #![tactic(auto)]
 
-ghost use Rattle.std.specs.Prelude.{◌≡◌, ◌+◌, ◌≤◌, length, OnOk, IfErr};
+ghost use Rattle.std.specs.Prelude.{◌≡◌, ◌+◌, ◌≤◌, ◌<◌, length, OnOk, IfErr, Err};
 ghost use Rattle.copying.specs.Copy.{written};
-ghost use Rattle.format.specs.Formats.{piece_size, number_range};
 ghost use Rattle.format.specs.Refusals.{guarded};
 ghost use Rattle.format.specs.Refusals as answers;
-ghost use Rattle.stream.specs.Step.{collecting, held, follows, progress_after, offered, next_of};
+ghost use Rattle.stream.specs.Step.{collecting, held, follows, progress_after, stepped, offered, next_of};
 ghost use Rattle.stream.specs.Claims.{OneAnswer};
 ghost use Rattle.stream.specs.Bounds.{StepBounds};
 
@@ -49,6 +48,15 @@ fn collecting(progress: Progress) -> bool
     matches!(progress, Progress::Collecting(_))
 }
 
+fn refuse(name: Refusal, progress: Progress) -> Stepped
+    ensures { result ≡ record { answer = Err name; progress = progress } }
+{
+    Stepped {
+        answer: Err(name),
+        progress,
+    }
+}
+
 // Writes the bytes from place at of the area on, and answers where they end.
 fn hold(at: usize, bytes: &[u8], area: &mut [u8]) -> u16
     requires { (at + length bytes.now ≤ 2048) × (length area.old ≡ 2048) }
@@ -59,18 +67,19 @@ fn hold(at: usize, bytes: &[u8], area: &mut [u8]) -> u16
     (at + bytes.len()) as u16
 }
 
-// The bytes of a middle or an end follow those held. Answers where they end, or ORPHAN, STEP, LONG. A collecting stream
-// is idle after it: the caller says what it is once the bytes are written.
+// The bytes of a middle or an end follow those held, over the piece size z and the number range m. Answers where they
+// end, or ORPHAN, STEP, LONG. A collecting stream is idle after it: the caller says what it is once the bytes are written.
 #[tactic(auto, unfolding(crate::specs::Step::follows, crate::specs::Step::progress_after, format::specs::Refusals::guarded))]
 fn append(
-    format: Format,
+    z: usize,
+    m: usize,
     progress: &mut Progress,
     number: u8,
     bytes: &[u8],
     area: &mut [u8],
 ) -> Result<u16, Refusal>
-    requires { (length area.old ≡ 2048) × (length bytes.now ≤ 8) }
-    ensures end { answers.meaning result ≡ guarded (follows (piece_size format) (number_range format) progress.old number (length bytes.now)) (held progress.old + length bytes.now) }
+    requires { (0 < z) × (0 < m) × (length area.old ≡ 2048) × (length bytes.now ≤ 8) }
+    ensures end { answers.meaning result ≡ guarded (follows z m progress.old number (length bytes.now)) (held progress.old + length bytes.now) }
     ensures ok { OnOk result (area.new ≡ written area.old (held progress.old) bytes.now) }
     ensures err { IfErr result (λ name. (progress.new ≡ progress_after (answers.number name) progress.old) × (area.new ≡ area.old)) }
 {
@@ -79,7 +88,7 @@ fn append(
     };
     *progress = Progress::Idle;
     let held = usize::from(h);
-    if usize::from(number) != held / format.piece_size() % format.number_range() {
+    if usize::from(number) != held / z % m {
         return Err(Refusal::Step);
     }
     if held > Area::SIZE - bytes.len() {
@@ -88,23 +97,19 @@ fn append(
     Ok(hold(held, bytes, area))
 }
 
-// The step, over a progress that it changes.
+// The step in both formats, over the piece size z and the number range m, and a progress that it changes.
 fn advance(
-    format: Format,
+    z: usize,
+    m: usize,
     progress: &mut Progress,
     flag: Flag,
     number: u8,
     bytes: &[u8],
     area: &mut [u8],
 ) -> Result<Answer, Refusal>
-    ensures { next_of (record { answer = result; progress = progress.new }) area.new ≡ offered format progress.old area.old flag number bytes.now }
+    requires { (0 < z) × (0 < m) × (length area.old ≡ 2048) × (length bytes.now ≤ 8) }
+    ensures { next_of (record { answer = result; progress = progress.new }) area.new ≡ stepped z m progress.old area.old flag number bytes.now }
 {
-    if area.len() != Area::SIZE {
-        return Err(Refusal::Store);
-    }
-    if bytes.len() > 8 {
-        return Err(Refusal::Surplus);
-    }
     let broke = collecting(*progress);
     match flag {
         Flag::Start => {
@@ -119,12 +124,12 @@ fn advance(
             Ok(Answer::Packet { length, broke })
         }
         Flag::Middle => {
-            let end = append(format, progress, number, bytes, area)?;
+            let end = append(z, m, progress, number, bytes, area)?;
             *progress = Progress::Collecting(end);
             Ok(Answer::Kept { broke: false })
         }
         Flag::End => {
-            let end = append(format, progress, number, bytes, area)?;
+            let end = append(z, m, progress, number, bytes, area)?;
             *progress = Progress::Done(end);
             Ok(Answer::Packet {
                 length: usize::from(end),
@@ -148,7 +153,15 @@ pub fn step(
 ) -> Stepped
     ensures { next_of result area.new ≡ offered format progress area.old flag number bytes.now }
 {
-    let answer = advance(format, &mut progress, flag, number, bytes, area);
+    if area.len() != Area::SIZE {
+        return refuse(Refusal::Store, progress);
+    }
+    if bytes.len() > 8 {
+        return refuse(Refusal::Surplus, progress);
+    }
+    let z = format.piece_size();
+    let m = format.number_range();
+    let answer = advance(z, m, &mut progress, flag, number, bytes, area);
     Stepped { answer, progress }
 }
 

@@ -6,6 +6,7 @@ ghost use Rattle.std.specs.Prelude.{◌≡◌, true, false, IfOk, IfErr, length}
 ghost use Rattle.watch_bytes.specs.States as states;
 ghost use Rattle.watch_bytes.specs.Claims as claims;
 
+use copying::copy_in;
 use format::Refusal;
 use watch::Watch;
 use words::{word_bytes, word_of};
@@ -20,15 +21,13 @@ impl State {
     pub const LAYOUT: u8 = 1;
 }
 
-// The bytes of a watch.
-#[tactic(auto, unfolding(crate::specs::States::state_bytes, words::specs::Words::word_bytes))]
-fn state_bytes(watch: Watch) -> [u8; State::SIZE]
-    ensures value { result ≡ states.state_bytes watch }
-    ensures nine { length result ≡ 9 }
+fn put(state: &mut [u8], watch: Watch)
+    requires { length state.old ≡ 9 }
+    ensures { state.new ≡ states.state_bytes watch }
 {
-    let [a0, a1, a2, a3] = word_bytes(watch.a);
     let [b0, b1, b2, b3] = word_bytes(watch.b);
-    [a0, a1, a2, a3, b0, b1, b2, b3, State::LAYOUT]
+    copy_in(state, 0, &word_bytes(watch.a));
+    copy_in(state, 4, &[b0, b1, b2, b3, State::LAYOUT]);
 }
 
 // The watch in the bytes, or STATE where they are no watch's.
@@ -54,7 +53,7 @@ pub fn new(state: &mut [u8], time: u32) -> Result<usize, Refusal>
     if state.len() != State::SIZE {
         return Err(Refusal::State);
     }
-    state.copy_from_slice(&state_bytes(Watch::new(time)));
+    put(state, Watch::new(time));
     Ok(0)
 }
 
@@ -64,7 +63,7 @@ pub fn heard(state: &mut [u8], bus: u8, time: u32) -> Result<usize, Refusal>
 {
     let heard = load(state)?.heard(bus, time);
     let bus = heard.answer?;
-    state.copy_from_slice(&state_bytes(heard.watch));
+    put(state, heard.watch);
     Ok(bus)
 }
 
@@ -75,7 +74,7 @@ pub fn check(state: &mut [u8], time: u32) -> Result<usize, Refusal>
     let checked = load(state)?.check(time);
     let resets = checked.resets();
     if resets != 0 {
-        state.copy_from_slice(&state_bytes(checked.watch));
+        put(state, checked.watch);
     }
     Ok(resets)
 }

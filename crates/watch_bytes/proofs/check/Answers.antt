@@ -1,5 +1,5 @@
 -- Bytes that are no watch's, buses to be reset, and none, where the watch is in the bytes already.
-use Rattle.std.proofs.Common.{◌≡◌, sym, ap, ◌∙◌, arith, rules}
+use Rattle.std.proofs.Common.{sym, ap, ◌∙◌, rules}
 use Rattle.std.specs.Prelude.{Ok}
 use Rattle.std.proofs.lemmas.Result.{err_from_is_err_and}
 use Rattle.frame.specs.Claims.{Bytes}
@@ -15,15 +15,15 @@ returns-in_err-load c =
     let p = err_from_is_err_and c.from_residual.result c.from_residual.ensures.1 in
     rw (p.1, p.2, c.in_err-load.ensures.none.1) (no-watch c.args.state.now _ c.in_err-load.ensures.none.0)
 
-pub copy_from_slice-requires : goal.copy_from_slice-requires
-copy_from_slice-requires c = sized _ c.in_ok-load.ensures.watch.0 ∙ sym c.state_bytes.ensures.nine
+pub put-requires : goal.put-requires
+put-requires c = sized _ c.in_ok-load.ensures.watch.0
 
 pub returns-then-resets-ne0 : goal.returns-then-resets-ne0
 unfolding checking
 returns-then-resets-ne0 c =
     let g = c.args in
     let t = c.check-checked.ensures ∙ ap (λ w. watching.checking w g.time) c.in_ok-load.ensures.watch.1 in
-    rw (c.copy_from_slice.ensures.after, c.state_bytes.ensures.value, c.resets-resets.ensures)
+    rw (c.put.ensures, c.resets-resets.ensures)
     (ap checked_in_bytes t ∙ a-watch g.state.now _ c.in_ok-load.ensures.watch.0)
 
 pub returns-else-resets-ne0 : goal.returns-else-resets-ne0

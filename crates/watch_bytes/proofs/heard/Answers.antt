@@ -1,5 +1,5 @@
 -- Bytes that are no watch's, a refusal, whose watch is in the bytes already, and a bus heard.
-use Rattle.std.proofs.Common.{◌≡◌, sym, ap, ◌∙◌, rules}
+use Rattle.std.proofs.Common.{sym, ap, ◌∙◌, rules}
 use Rattle.std.proofs.lemmas.Result.{err_from_is_err_and}
 use Rattle.frame.specs.Claims.{Bytes}
 use Rattle.watch.specs.Watching as watching
@@ -25,13 +25,13 @@ returns-in_err-bus c =
     let same = there g.state.now bytes is g.bus g.time c.heard-heard.result _ t c.in_err-bus.was in
     rw (p.1, p.2) (ap (λ r. watch_bytes_after r g.state.now) (sym c.in_err-bus.was) ∙ ap (watch_bytes_after c.heard-heard.result.answer) (sym same) ∙ ap heard_in_bytes t ∙ a-watch g.state.now _ is)
 
-pub copy_from_slice-requires : goal.copy_from_slice-requires
-copy_from_slice-requires c = sized _ c.in_ok-load.ensures.watch.0 ∙ sym c.state_bytes.ensures.nine
+pub put-requires : goal.put-requires
+put-requires c = sized _ c.in_ok-load.ensures.watch.0
 
 pub returns : goal.returns
 unfolding hearing
 returns c =
     let g = c.args in
     let t = c.heard-heard.ensures ∙ ap (λ w. watching.hearing w g.bus g.time) c.in_ok-load.ensures.watch.1 in
-    rw (c.copy_from_slice.ensures.after, c.state_bytes.ensures.value)
+    rw c.put.ensures
     (ap (λ r. watch_bytes_after r (state_bytes c.heard-heard.result.watch)) (sym c.in_ok-bus.was) ∙ ap heard_in_bytes t ∙ a-watch g.state.now _ c.in_ok-load.ensures.watch.0)
