@@ -1,5 +1,6 @@
 pub mod Flags
 mod Passing
+mod JudgeLaws
 mod CountCodes
 pub mod Images
 pub mod Judged

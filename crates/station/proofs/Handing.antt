@@ -34,7 +34,7 @@ use Rattle.station.specs.declared.Station.{Station}
 use Rattle.station.specs.Stations.{sound_station, area, full_size}
 use Rattle.station.specs.Receive.{progress_in, progress_of}
 use Rattle.station.specs.Open.{vacancy, is_open, occupied}
-use Rattle.station.specs.Read.{is_done, reading, length_of}
+use Rattle.station.specs.Read.{is_done, reading, length_of, part_of}
 use Rattle.station.proofs.Areas.{area_length}
 use Rattle.slot.proofs.CodeLaws.{sought_refused}
 use Rattle.station.proofs.Slots.{sound_at}
@@ -249,3 +249,11 @@ from_length station store i h (refused n) e q = let z : ◌≡◌ {A = ℕ} 0 1 
 
 pub has_length : (station : Station) (store : List ℕ) (i h : ℕ) → value h ≡ length_of (reading station store i) → Readable station store i h
 has_length station store i h q = from_length station store i h (reading station store i) refl q
+
+-- and a refusal has an empty part
+no_part : (n : ℕ) (r : Result (List ℕ)) → refused n ≡ length_of r → part_of r ≡ []
+no_part n (value bytes) e = let z : ◌≡◌ {A = ℕ} 0 1 = cc in absurd (omega arith)
+no_part n (refused m) e = refl
+
+pub has_none : (station : Station) (store : List ℕ) (i n : ℕ) → refused n ≡ length_of (reading station store i) → [] ≡ part_of (reading station store i)
+has_none station store i n e = sym (no_part n (reading station store i) e)

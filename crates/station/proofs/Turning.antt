@@ -2,9 +2,10 @@
 use Prim.Native.Nat.{ℕ, ◌+◌, ◌-◌, ◌*◌, ◌≤◌, ◌<◌}
 use mathlib.Core.Path.{◌≡◌, refl, sym, ap, ◌∙◌}
 use mathlib.Core.Logic.{◌≢◌}
-use mathlib.Core.Bool.{true, false}
+use mathlib.Core.Bool.{Bool, true, false, cond}
 use mathlib.Core.List.{List, [], ◌∷◌, ◌++◌}
 use native.Mathlib.Omega.{arith}
+use lib.Dec.{leb, eqb}
 use lib.ListN.{length, set, take, drop, length-drop}
 use lib.Seq.{take_all, drop-drop}
 use borrow.Rule.Slice.PartMut.{put_mid}
@@ -13,7 +14,7 @@ use Rattle.std.specs.Prelude.{Err}
 use Rattle.format.specs.declared.Format.{Format}
 use Rattle.format.specs.declared.Refusal.{Refusal}
 use Rattle.format.specs.declared.Refusal.TheVariants.{Field, Store, Closed, State, Surplus}
-use Rattle.format.specs.Refusals.{check, value, refused, number, Check, guarded}
+use Rattle.format.specs.Refusals.{check, Result, value, refused, number, Check, guarded, checked_then}
 use Rattle.format.proofs.Checks.{pass, none_left, stop_then, pass_then, none_left_then, passed, passed_then}
 use Rattle.frame.specs.Judge.{Frame, Judged, judge}
 use Rattle.frame.proofs.Judged.{sound_image}
@@ -22,12 +23,13 @@ use Rattle.stream.specs.declared.Stepped.{Stepped}
 use Rattle.stream.specs.Answers.{meaning, filtered}
 use Rattle.stream.specs.Step.{Next, step, offered, next_of}
 use Rattle.slot.specs.declared.Key.{Key}
+use Rattle.slot.specs.declared.Slot.{Slot}
 use Rattle.slot.specs.Slots.{open_slot, slot_at, is_closed, has_key, place}
-use Rattle.slot.specs.Sound.{sought}
+use Rattle.slot.specs.Sound.{sound, sought}
 use Rattle.slot.proofs.CodeLaws.{sought_refused}
 use Rattle.station.specs.declared.Station.{Station}
-use Rattle.station.specs.Stations.{sound_station, with_slots, area, with_area}
-use Rattle.station.specs.Receive.{After, unchanged, key_of, progress_of, step_at, deliver, examined, let_in, receive, concerned, step_in, step_checks, area_step, stepping}
+use Rattle.station.specs.Stations.{station_of, sound_station, with_slots, area, with_area}
+use Rattle.station.specs.Receive.{After, unchanged, key_of, progress_of, step_at, deliver, examined, let_in, receive, concerned_by, concerned, step_in, step_checks, area_step, stepping}
 use Rattle.station.proofs.Areas.{area_length}
 use Rattle.station.proofs.Handing.{sixteen}
 
@@ -50,6 +52,18 @@ module _ (station : Station) (store : List ℕ) (bus : ℕ) (image : List ℕ) w
 
       pub in_judged : bus ≤ 1 → judge station.format image ≡ let_in station store bus image
       in_judged b = pass_then Field _ _ (le-leb _ _ b) (none_left_then _) ∙ in_examined
+
+-- a refused image concerns no slot, whatever the slots, the store and the bus are
+pub on_image : (format : Format) (slots : List Slot) (store : List ℕ) (bus : ℕ) (image : List ℕ) (own : Refusal)
+    → refused (number own) ≡ judge format image → 16 ≡ concerned (station_of format slots) store bus image
+unfolding concerned checked_then
+on_image format slots store bus image own e = go (sound format slots) (eqb (length store) 32768) (leb bus 1)
+  where
+    go : (s w b : Bool) → 16 ≡ concerned_by slots bus (cond s (cond w (cond b (judge format image) (refused 9)) (refused 13)) (refused 21))
+    go false w b = refl
+    go true false b = refl
+    go true true false = refl
+    go true true true = ap (λ (j : Result Judged). concerned_by slots bus j) e
 
 -- a refusal
 module _ (station : Station) (store : List ℕ) (bus : ℕ) (image : List ℕ) where
