@@ -89,9 +89,9 @@ pub enum Line {
 // An output of so many bytes has room for every line.
 pub const LINE_ROOM: usize = 96;
 
-// A line while it is put together: of its bytes the first `len` count. Each part fits by its contract;
-// `write!` would not do, as no contract says when it fails, and ROOM has to mean that the output is too
-// short. No part calls memcpy, which costs more than the few bytes that most parts have.
+// A line while it is put together: of its bytes the first `len` count, and contracts see these. Each part
+// fits by its contract; `write!` would not do, as no contract says when it fails, and ROOM has to mean that
+// the output is too short. No part is copied by a call of memcpy: most have a byte or two.
 #[derive(Drop)]
 struct Text {
     bytes: [u8; LINE_ROOM],
@@ -273,6 +273,7 @@ impl Line {
         }
     }
 
+    // The whole line, put into an empty text: lent, so that its bytes are not copied on return.
     #[tactic(auto, using(crate::proofs::Texts::lengths))]
     fn push(self, text: &mut Text)
         requires { text.old ≡ [] }
