@@ -1,7 +1,7 @@
 // Traces: one record read from lent bytes, and one line of the listing written to a lent output.
 #![tactic(auto)]
 
-ghost use Rattle.std.specs.Prelude.{◌≡◌, ◌++◌, ◌+◌, ◌*◌, ◌≤◌, ◌<◌, length, take};
+ghost use Rattle.std.specs.Prelude.{ℕ, ◌≡◌, List, [], ◌∷◌, ◌++◌, ◌+◌, ◌*◌, ◌≤◌, ◌<◌, length, take};
 ghost use Rattle.format.specs.Formats.{flag_bits};
 ghost use Rattle.format.specs.Refusals.{refused, number};
 ghost use Rattle.format.specs.Refusals.{meaning as outcome·meaning};
@@ -12,9 +12,8 @@ ghost use Rattle.trace.specs.Lines.{ascii, decimal, field_text, fields_text, bus
 ghost use Rattle.trace.specs.Claims.{RoomForLine, Decimal, Arriving, Sized, OneEntry};
 ghost use Rattle.trace.specs.Bounds.{RecordBounds, LineTexts, LinesRefused};
 
-use arrayvec::ArrayString;
 use format::{Fields, Flag, Refusal};
-use itoa::Buffer;
+use std::marker::Model;
 use stream::Answer;
 
 // What stands at the head of a trace's bytes.
@@ -90,25 +89,79 @@ pub enum Line {
 // An output of so many bytes has room for every line.
 pub const LINE_ROOM: usize = 96;
 
-// A line while it is put together. Each part fits by its contract; `write!` would not do, as no contract
-// says when it fails, and ROOM has to mean that the output is too short.
-type Text = ArrayString<LINE_ROOM>;
+// A line while it is put together: of its bytes the first `len` count, and contracts see these. Each part
+// fits by its contract; `write!` would not do, as no contract says when it fails, and ROOM has to mean that
+// the output is too short. No part is copied by a call of memcpy: most have a byte or two.
+#[derive(Drop)]
+struct Text {
+    bytes: [u8; LINE_ROOM],
+    len: usize,
+}
 
-#[tactic(auto, using(crate::proofs::Texts::decimal_of_std))]
+impl Model for Text {
+    ghost Value = { List ℕ };
+
+    ghost view = { λ text. take text.len text.bytes };
+
+    ghost invariant = { λ text. text.len ≤ length text.bytes };
+}
+
+impl Text {
+    fn new() -> Self
+        ensures { result ≡ [] }
+    {
+        Text {
+            bytes: [0; LINE_ROOM],
+            len: 0,
+        }
+    }
+
+    fn as_bytes(&self) -> &[u8]
+        ensures { result.now ≡ self.now }
+    {
+        &self.bytes[..self.len]
+    }
+
+    #[tactic(auto, using(crate::proofs::Texts::pushed))]
+    fn push_byte(&mut self, byte: u8)
+        requires { length self.old < LINE_ROOM }
+        ensures { self.new ≡ self.old ++ byte ∷ [] }
+    {
+        self.bytes[self.len] = byte;
+        self.len += 1;
+    }
+
+    #[tactic(auto, using(crate::proofs::Texts::pushed))]
+    fn push_str(&mut self, words: &str)
+        requires { length self.old + length words.now ≤ LINE_ROOM }
+        ensures { self.new ≡ self.old ++ words.now }
+    {
+        copying::copy_in(&mut self.bytes, self.len, words.as_bytes());
+        self.len += words.len();
+    }
+}
+
+// A number in decimal digits: its first ones, then its last.
+#[tactic(auto, using(crate::proofs::Texts::numbers))]
 fn push_number(text: &mut Text, n: u64)
-    requires { length text.old.bytes + length (decimal n) ≤ LINE_ROOM }
-    ensures { text.new.bytes ≡ text.old.bytes ++ decimal n }
+    requires { length text.old + length (decimal n) ≤ LINE_ROOM }
+    ensures { text.new ≡ text.old ++ decimal n }
 {
-    text.push_str(Buffer::new().format(n));
+    if n < 10 {
+        text.push_byte(b'0' + n as u8);
+        return;
+    }
+    push_number(text, n / 10);
+    text.push_byte(b'0' + (n % 10) as u8);
 }
 
 // A number after a blank.
 #[tactic(auto, using(crate::proofs::Texts::lengths), unfolding(crate::specs::Lines::field_text))]
 fn push_field(text: &mut Text, n: u64)
-    requires { length text.old.bytes + length (field_text n) ≤ LINE_ROOM }
-    ensures { text.new.bytes ≡ text.old.bytes ++ field_text n }
+    requires { length text.old + length (field_text n) ≤ LINE_ROOM }
+    ensures { text.new ≡ text.old ++ field_text n }
 {
-    text.push_str(" ");
+    text.push_byte(b' ');
     push_number(text, n);
 }
 
@@ -121,8 +174,8 @@ fn bus_name(bus: u8) -> &'static str
 // The record's number and its bus, at the text's beginning.
 #[tactic(auto, using(crate::proofs::Texts::lengths))]
 fn push_start(text: &mut Text, ordinal: u64, bus: u8)
-    requires { length text.old.bytes + 22 ≤ LINE_ROOM }
-    ensures { text.new.bytes ≡ text.old.bytes ++ (decimal ordinal ++ bus_name bus) }
+    requires { length text.old + 22 ≤ LINE_ROOM }
+    ensures { text.new ≡ text.old ++ (decimal ordinal ++ bus_name bus) }
 {
     push_number(text, ordinal);
     text.push_str(bus_name(bus));
@@ -131,9 +184,9 @@ fn push_start(text: &mut Text, ordinal: u64, bus: u8)
 // The fields in the header's order; a standard frame has none.
 #[tactic(auto, using(crate::proofs::Texts::columns), unfolding(crate::specs::Lines::fields_text))]
 fn push_columns(text: &mut Text, fields: Fields, flag: Flag, number: u8, count: u8)
-    requires { length text.old.bytes + 32 ≤ LINE_ROOM }
-    ensures pushed { text.new.bytes ≡ text.old.bytes ++ fields_text (columns fields (flag_bits flag) number count) }
-    ensures upper_bound { length text.new.bytes ≤ length text.old.bytes + 32 }
+    requires { length text.old + 32 ≤ LINE_ROOM }
+    ensures pushed { text.new ≡ text.old ++ fields_text (columns fields (flag_bits flag) number count) }
+    ensures upper_bound { length text.new ≤ length text.old + 32 }
 {
     let Fields::Extended {
         priority,
@@ -161,8 +214,8 @@ fn push_columns(text: &mut Text, fields: Fields, flag: Flag, number: u8, count: 
 
 #[tactic(auto, using(crate::proofs::Texts::lengths))]
 fn push_refusal(text: &mut Text, name: Refusal)
-    requires { length text.old.bytes + 29 ≤ LINE_ROOM }
-    ensures { text.new.bytes ≡ text.old.bytes ++ answer_text (refused (number name)) }
+    requires { length text.old + 29 ≤ LINE_ROOM }
+    ensures { text.new ≡ text.old ++ answer_text (refused (number name)) }
 {
     text.push_str(" refused");
     push_field(text, u64::from(name.number()));
@@ -176,8 +229,8 @@ fn broke_or(broke: bool) -> &'static str
 
 #[tactic(auto, using(crate::proofs::Texts::lengths))]
 fn push_answer(text: &mut Text, answer: Result<Answer, Refusal>)
-    requires { length text.old.bytes + 34 ≤ LINE_ROOM }
-    ensures { text.new.bytes ≡ text.old.bytes ++ answer_text (reply·meaning answer) }
+    requires { length text.old + 34 ≤ LINE_ROOM }
+    ensures { text.new ≡ text.old ++ answer_text (reply·meaning answer) }
 {
     match answer {
         Ok(Answer::Packet { length, broke }) => {
@@ -220,11 +273,12 @@ impl Line {
         }
     }
 
+    // The whole line, put into an empty text: lent, so that its bytes are not copied on return.
     #[tactic(auto, using(crate::proofs::Texts::lengths))]
-    fn text(self) -> Text
-        ensures { result.bytes ≡ line_text self }
+    fn push(self, text: &mut Text)
+        requires { text.old ≡ [] }
+        ensures { text.new ≡ line_text self }
     {
-        let mut text = Text::new();
         match self {
             Line::Header => text.push_str(
                 "record bus priority source group dest flag number function count answer",
@@ -238,30 +292,29 @@ impl Line {
                 count,
                 answer,
             } => {
-                push_start(&mut text, ordinal, bus);
-                push_columns(&mut text, fields, flag, number, count);
-                push_answer(&mut text, answer);
+                push_start(text, ordinal, bus);
+                push_columns(text, fields, flag, number, count);
+                push_answer(text, answer);
             }
             Line::Refused { ordinal, bus, name } => {
-                push_start(&mut text, ordinal, bus);
-                push_refusal(&mut text, name);
+                push_start(text, ordinal, bus);
+                push_refusal(text, name);
             }
             Line::Stopped { ordinal } => {
-                push_number(&mut text, ordinal);
+                push_number(text, ordinal);
                 text.push_str(" stopped");
             }
             Line::Records { count } => {
                 text.push_str("records");
-                push_field(&mut text, count);
+                push_field(text, count);
             }
         }
-        text.push_str("\n");
-        text
+        text.push_byte(b'\n');
     }
 }
 
 // Writes a line over the head of the output and answers its length, or refuses: FIELD, ROOM.
-#[tactic(auto, unfolding(crate::specs::Lines::writing, format::specs::Refusals::checked_then, format::specs::Refusals::guarded, format::specs::Outputs::fitting))]
+#[tactic(auto, using(copying::proofs::Copying::head_copied), unfolding(crate::specs::Lines::writing, format::specs::Refusals::checked_then, format::specs::Refusals::guarded, format::specs::Outputs::fitting))]
 pub fn write_line(line: Line, output: &mut [u8]) -> Result<usize, Refusal>
     ensures result_value { outcome·meaning result ≡ answer (writing line (length output.old)) }
     ensures output_after { output.new ≡ output_after (writing line (length output.old)) output.old }
@@ -269,12 +322,14 @@ pub fn write_line(line: Line, output: &mut [u8]) -> Result<usize, Refusal>
     if !line.in_range() {
         return Err(Refusal::Field);
     }
-    let text = line.text();
-    let n = text.len();
+    let mut text = Text::new();
+    line.push(&mut text);
+    let bytes = text.as_bytes();
+    let n = bytes.len();
     if output.len() < n {
         return Err(Refusal::Room);
     }
-    output[..n].copy_from_slice(text.as_bytes());
+    copying::copy_in(output, 0, bytes);
     Ok(n)
 }
 

@@ -5,5 +5,5 @@ use Rattle.trace.proofs.push_columns.Given as goal
 
 abbrev pub invariant-loop-value : goal.invariant-loop-value
 invariant-loop-value l =
-    (length l.text.bytes ≤ length l.initial.text.bytes + 4 * l.value-index)
-    × (l.text.bytes ≡ l.initial.text.bytes ++ fields_text (take l.value-index l.value-items))
+    (length l.text ≤ length l.initial.text + 4 * l.value-index)
+    × (l.text ≡ l.initial.text ++ fields_text (take l.value-index l.value-items))
