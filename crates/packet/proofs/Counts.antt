@@ -51,7 +51,7 @@ rounded_up z n pos = go (n % z) refl
     go (suc r) e =
         let d : suc (n / z) * z + r ≡ n + (z - 1) = omega (arith, div-add-mod' n z, suc-mul (n / z) z) in
         let s : (n + (z - 1)) / z ≡ suc (n / z) =
-            ap (λ (m : ℕ). m / z) (sym d) ∙ div-mul-add (suc (n / z)) z r (omega (arith, mod-lt n pos))
+        ap (λ (m : ℕ). m / z) (sym d) ∙ div-mul-add (suc (n / z)) z r (omega (arith, mod-lt n pos))
         in
         omega arith
 
@@ -78,7 +78,7 @@ module _ (z : ℕ) (packet : List ℕ) (k : ℕ) where
       → m ≡ min z (length left) → take m left ≡ piece_bytes z packet k
   bytes_taken long left m el em =
       let rest : left ≡ drop (z * k) packet =
-          el ∙ take_all (length packet - z * k) (drop (z * k) packet) (rw length-drop (omega arith))
+      el ∙ take_all (length packet - z * k) (drop (z * k) packet) (rw length-drop (omega arith))
       in
       rw em (take_min z left) ∙ ap (take z) rest ∙ sym (bytes_several long)
 

@@ -63,6 +63,11 @@ pub fits : {fields : Fields} (packet : List ℕ) {format : Format} {z : ℕ} →
     → length packet ≤ packet_limit format → z ≡ piece_size format → Sized fields packet format z
 fits packet r f w e = record { range = r; of_format = f; within = w; size = e }
 
+-- the number of piece k is in its format's range
+pub number_small : (fields : Fields) {format : Format} (k n : ℕ) → format ≡ format_of fields → n ≡ k % number_range format
+    → n < number_range (format_of fields)
+number_small fields k n f e = rw (e, f) (mod-lt k (some_numbers (format_of fields)))
+
 module _ (fields : Fields) (packet : List ℕ) (k : ℕ) (output : List ℕ) where
   as_refused : (name : Refusal) → refused (number name) ≡ send fields packet k (length output) → Sent fields packet k output (Err name) output
   as_refused name e = not_written _ output (number name) e
@@ -100,7 +105,7 @@ module _ {fields : Fields} {packet : List ℕ} {k : ℕ} {format : Format} {z co
   pub ready : (in_range fields ≡ true) × (n < number_range (format_of fields)) × (length bytes ≤ 8)
   ready =
       let s = i.sized in
-      (s.range, rw (en, s.of_format) (mod-lt k (some_numbers (format_of fields))), rw eb (bytes_small z packet k (sizes s).1))
+      (s.range, number_small fields k n s.of_format en, rw eb (bytes_small z packet k (sizes s).1))
 
   is_piece : frame_with fields flag n bytes ≡ piece fields packet k
   unfolding piece

@@ -98,7 +98,8 @@ fn put(head: &[u8; 6], m: usize, bytes: &[u8], output: &mut [u8])
     copying::copy_in(output, m, bytes);
 }
 
-// What a frame has before its packet bytes, in range.
+// What a frame has before its packet bytes, in range. It is lent to its methods: by value its eight
+// bytes are one word to the compiler, which takes it apart again.
 #[derive(Clone, Copy)]
 struct Header {
     fields: Fields,
@@ -189,10 +190,11 @@ pub fn write_piece(
     if k >= count {
         return Err(Refusal::Index);
     }
+    let range = format.number_range();
     let header = Header {
         fields,
         flag: flag_at(count, k),
-        number: number_at(format.number_range(), k),
+        number: number_at(range, k),
     };
     header.write(bytes_at(z, packet, k), output)
 }
