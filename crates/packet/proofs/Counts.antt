@@ -1,14 +1,13 @@
 -- How many pieces there are, over the piece size z.
 use Prim.Native.Nat.{ℕ, zero, suc, ◌+◌, ◌-◌, ◌*◌, ◌/◌, ◌%◌, ◌≤◌, ◌<◌, min}
-use mathlib.Core.Path.{◌≡◌}
+use mathlib.Core.Path.{◌≡◌, refl, sym, ap, ◌∙◌}
 use mathlib.Core.List.{List}
 use native.Mathlib.Nat.{mul-suc, suc-mul, mul_comm, mod-lt, mul-le-mul_left, div-add-mod'}
 use native.Mathlib.Omega.{arith}
 use lib.ListN.{length, take, drop, length-drop}
+use lib.Seq.{take_all}
+use Rattle.std.proofs.lemmas.Nat.{div-mul-add}
 use Rattle.std.proofs.lemmas.List.{take_min}
-use Rattle.format.specs.declared.Format.{Format}
-use Rattle.format.specs.declared.Format.TheVariants.{Extended, Standard}
-use Rattle.format.specs.Formats.{piece_size}
 use Rattle.format.proofs.Limits.{some_bytes, eight_bytes, most_bytes}
 use borrow.Author.Tests.{lt-leb, le-leb}
 use Rattle.packet.specs.Split.{count_of, piece_bytes}
@@ -40,7 +39,28 @@ module _ (z n : ℕ) (pos : 0 < z) (small : z ≤ 8) (long : 8 < n) where
       rw (lt-leb n 8 long)
       (by_quotient ((n + (z - 1)) / z) ((n + (z - 1)) % z) (div-add-mod' (n + (z - 1)) z) (mod-lt (n + (z - 1)) pos))
 
+-- the quotient rounded up, as the code has it
+pub rounded_up : (z n : ℕ) → 0 < z → n / z + min 1 (n % z) ≡ (n + (z - 1)) / z
+rounded_up z n pos = go (n % z) refl
+  where
+    go : (r : ℕ) → n % z ≡ r → n / z + min 1 (n % z) ≡ (n + (z - 1)) / z
+    go zero e =
+        let d : n / z * z + (z - 1) ≡ n + (z - 1) = omega (arith, div-add-mod' n z) in
+        let s : (n + (z - 1)) / z ≡ n / z = ap (λ (m : ℕ). m / z) (sym d) ∙ div-mul-add (n / z) z (z - 1) (omega arith) in
+        omega arith
+    go (suc r) e =
+        let d : suc (n / z) * z + r ≡ n + (z - 1) = omega (arith, div-add-mod' n z, suc-mul (n / z) z) in
+        let s : (n + (z - 1)) / z ≡ suc (n / z) =
+        ap (λ (m : ℕ). m / z) (sym d) ∙ div-mul-add (suc (n / z)) z r (omega (arith, mod-lt n pos))
+        in
+        omega arith
+
 module _ (z : ℕ) (packet : List ℕ) (k : ℕ) where
+  -- piece k begins within the packet
+  pub within_packet : (0 < z) × (z ≤ 8) × (length packet ≤ 2048) × (k < count_of z (length packet)) → 8 < length packet
+      → z * k ≤ length packet
+  within_packet r long = let h = (several z (length packet) r.0 r.1 long).within k r.3 in omega arith
+
   pub bytes_single : length packet ≤ 8 → piece_bytes z packet k ≡ packet
   unfolding piece_bytes
   bytes_single h = rw (le-leb _ _ h)
@@ -49,16 +69,18 @@ module _ (z : ℕ) (packet : List ℕ) (k : ℕ) where
   unfolding piece_bytes
   bytes_several h = rw (lt-leb _ _ h)
 
--- piece k begins within the packet
-pub within_packet : (format : Format) (packet : List ℕ) (k : ℕ) → k < count_of (piece_size format) (length packet) → 8 < length packet
-    → piece_size format * k ≤ length packet
-within_packet format packet k index long =
-    let h = (several (piece_size format) (length packet) (some_bytes format) (eight_bytes format) long).within k index in omega arith
+  -- the last piece has what is left
+  pub bytes_last : 8 < length packet → length packet - z * k ≤ z → piece_bytes z packet k ≡ drop (z * k) packet
+  bytes_last h l = bytes_several h ∙ take_all z (drop (z * k) packet) (rw length-drop l)
 
--- what the code needs of the place of piece k
-pub ruleset begins = (arith, within_packet, eight_bytes, most_bytes, length-drop, take_min)
+  -- so much of what is left as the code takes
+  pub bytes_taken : 8 < length packet → (left : List ℕ) (m : ℕ) → left ≡ take (length packet - z * k) (drop (z * k) packet)
+      → m ≡ min z (length left) → take m left ≡ piece_bytes z packet k
+  bytes_taken long left m el em =
+      let rest : left ≡ drop (z * k) packet =
+      el ∙ take_all (length packet - z * k) (drop (z * k) packet) (rw length-drop (omega arith))
+      in
+      rw em (take_min z left) ∙ ap (take z) rest ∙ sym (bytes_several long)
 
--- the quotient rounded up, as the code has it
-pub rounded_up : (format : Format) (n : ℕ) → n / piece_size format + min 1 (n % piece_size format) ≡ (n + (piece_size format - 1)) / piece_size format
-rounded_up Extended n = omega arith
-rounded_up Standard n = omega arith
+-- what the code needs of a format's sizes
+pub ruleset sizes = (arith, some_bytes, eight_bytes, most_bytes)

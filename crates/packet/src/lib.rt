@@ -1,9 +1,9 @@
 // Splitting: the pieces of a packet, as frame images.
 #![tactic(auto)]
 
-ghost use Rattle.std.specs.Prelude.{◌≡◌, true, ◌++◌, ◌+◌, ◌≤◌, ◌<◌, length, take};
+ghost use Rattle.std.specs.Prelude.{◌≡◌, true, ◌++◌, ◌+◌, ◌%◌, ◌≤◌, ◌<◌, length, take};
 ghost use Rattle.copying.specs.Copy.{copied};
-ghost use Rattle.format.specs.Formats.{packet_limit, piece_size, number_range, format_of, in_range};
+ghost use Rattle.format.specs.Formats.{number_range, format_of, in_range};
 ghost use Rattle.format.specs.Refusals.{meaning};
 ghost use Rattle.format.specs.Outputs.{fitting, answer, over, output_after, Writes};
 ghost use Rattle.frame.specs.Image.{header_bytes, image_of};
@@ -16,18 +16,27 @@ ghost use Rattle.packet.specs.Bounds.{SendingBounds};
 
 use format::{Fields, Flag, Format, Refusal};
 
+// The number of pieces, over the piece size z.
+#[tactic(auto, using(crate::proofs::Counts::rounded_up), unfolding(crate::specs::Split::count_of))]
+fn count_of(z: usize, n: usize) -> usize
+    requires { (0 < z) × (z ≤ 8) × (n ≤ 2048) }
+    ensures { result ≡ count_of z n }
+{
+    if n <= 8 {
+        return 1;
+    }
+    n.div_ceil(z)
+}
+
 // The number of pieces of a packet of that size, or SIZE.
-#[tactic(auto, using(crate::proofs::Counts::rounded_up), unfolding(crate::specs::Send::piece_count, crate::specs::Split::count_of, format::specs::Refusals::guarded))]
+#[tactic(auto, using(crate::proofs::Counts::sizes), unfolding(crate::specs::Send::piece_count, format::specs::Refusals::guarded))]
 pub fn piece_count(format: Format, size: usize) -> Result<usize, Refusal>
     ensures { meaning result ≡ piece_count format size }
 {
     if size > format.packet_limit() {
         return Err(Refusal::Size);
     }
-    if size <= 8 {
-        return Ok(1);
-    }
-    Ok(size.div_ceil(format.piece_size()))
+    Ok(count_of(format.piece_size(), size))
 }
 
 #[tactic(auto, unfolding(crate::specs::Split::piece_flag))]
@@ -43,18 +52,26 @@ fn flag_at(count: usize, k: usize) -> Flag
     }
 }
 
-// The packet bytes of piece k.
-#[tactic(auto, using(crate::proofs::Counts::begins), unfolding(crate::specs::Split::piece_bytes))]
-fn bytes_at(format: Format, packet: &[u8], k: usize) -> &[u8]
-    requires { (length packet.now ≤ packet_limit format) × (k < count_of (piece_size format) (length packet.now)) }
-    ensures { result.now ≡ piece_bytes (piece_size format) packet.now k }
+// The number of piece k, over the number range.
+fn number_at(range: usize, k: usize) -> u8
+    requires { (0 < range) × (range ≤ 256) }
+    ensures { result ≡ k % range }
+{
+    (k % range) as u8
+}
+
+// The packet bytes of piece k, over the piece size z.
+#[tactic(auto, unfolding(crate::specs::Split::piece_bytes))]
+fn bytes_at(z: usize, packet: &[u8], k: usize) -> &[u8]
+    requires { (0 < z) × (z ≤ 8) × (length packet.now ≤ 2048) × (k < count_of z (length packet.now)) }
+    ensures { result.now ≡ piece_bytes z packet.now k }
 {
     if packet.len() <= 8 {
         return packet;
     }
-    let z = format.piece_size();
     let from = z * k;
-    &packet[from..packet.len().min(from + z)]
+    let left = &packet[from..];
+    &left[..z.min(left.len())]
 }
 
 // Writes the first m of head over the output from its start. The lengths that a header has are told
@@ -81,7 +98,8 @@ fn put(head: &[u8; 6], m: usize, bytes: &[u8], output: &mut [u8])
     copying::copy_in(output, m, bytes);
 }
 
-// What a frame has before its packet bytes, in range.
+// What a frame has before its packet bytes, in range. It is lent to its methods: by value its eight
+// bytes are one word to the compiler, which takes it apart again.
 #[derive(Clone, Copy)]
 struct Header {
     fields: Fields,
@@ -95,9 +113,9 @@ impl Header {
     // Its bytes, after them the number for the pieces that have it among their data bytes, and zeros.
     // A count of 9, eight bytes and a number, never comes about; allowing it spares write a test.
     #[tactic(auto, using(frame::proofs::Flags::bits_small), unfolding(format::specs::Formats::in_range, format::specs::Tests::all_true, format::specs::Tests::all_after, frame::specs::Image::header_bytes, crate::specs::Parts::filler))]
-    fn bytes(self, count: u8) -> [u8; 6]
+    fn bytes(&self, count: u8) -> [u8; 6]
         requires { count ≤ 9 }
-        ensures { result ≡ header_bytes self.fields self.flag self.number count ++ filler self.fields self.number }
+        ensures { result ≡ header_bytes self.now.fields self.now.flag self.now.number count ++ filler self.now.fields self.now.number }
     {
         let bits = self.flag.bits();
         match self.fields {
@@ -131,9 +149,9 @@ impl Header {
     }
 
     // Writes the image of the frame that has those packet bytes, or refuses with ROOM.
-    fn write(self, bytes: &[u8], output: &mut [u8]) -> Result<usize, Refusal>
+    fn write(&self, bytes: &[u8], output: &mut [u8]) -> Result<usize, Refusal>
         requires { length bytes.now ≤ 8 }
-        ensures { Writes (fitting (image_of (frame_with self.fields self.flag self.number bytes.now)) (length output.old)) output.old (meaning result) output.new }
+        ensures { Writes (fitting (image_of (frame_with self.now.fields self.now.flag self.now.number bytes.now)) (length output.old)) output.old (meaning result) output.new }
     {
         let format = self.fields.format();
         let start = format.packet_start(self.flag);
@@ -163,16 +181,22 @@ pub fn write_piece(
         return Err(Refusal::Field);
     }
     let format = fields.format();
-    let count = piece_count(format, packet.len())?;
+    let n = packet.len();
+    if n > format.packet_limit() {
+        return Err(Refusal::Size);
+    }
+    let z = format.piece_size();
+    let count = count_of(z, n);
     if k >= count {
         return Err(Refusal::Index);
     }
+    let range = format.number_range();
     let header = Header {
         fields,
         flag: flag_at(count, k),
-        number: (k % format.number_range()) as u8,
+        number: number_at(range, k),
     };
-    header.write(bytes_at(format, packet, k), output)
+    header.write(bytes_at(z, packet, k), output)
 }
 
 // The claims of this crate. It does nothing: its contract ties each claim to its proof.

@@ -10,17 +10,17 @@ use Rattle.packet.proofs.Header.write.Goals as goal
 pub returns-then-output-size : goal.returns-then-output-size
 returns-then-output-size c =
     let a = c.args in
-    let starts = c.packet_start-start.ensures ∙ ap (λ (f : Format). packet_start f a.self.flag) c.format-format.ensures in
-    let sized = image-size a.self.flag a.self.number a.bytes.now a.self.fields _ starts in
+    let starts = c.packet_start-start.ensures ∙ ap (λ (f : Format). packet_start f a.self.now.flag) c.format-format.ensures in
+    let sized = image-size a.self.now.flag a.self.now.number a.bytes.now a.self.now.fields _ starts in
     not_written _ a.output.now 12 (no_room _ a.output.now _ (sym sized) (omega arith))
 
 pub returns : goal.returns
 returns c =
     let a = c.args in
-    let starts = c.packet_start-start.ensures ∙ ap (λ (f : Format). packet_start f a.self.flag) c.format-format.ensures in
-    let sized = image-size a.self.flag a.self.number a.bytes.now a.self.fields _ starts in
+    let starts = c.packet_start-start.ensures ∙ ap (λ (f : Format). packet_start f a.self.now.flag) c.format-format.ensures in
+    let sized = image-size a.self.now.flag a.self.now.number a.bytes.now a.self.now.fields _ starts in
     let heads = c.header_size.ensures ∙ ap header_size c.format-format.ensures in
-    let led = image-led a.self.flag a.self.number a.bytes.now a.self.fields _ starts _ heads _ c.bytes-head.ensures in
+    let led = image-led a.self.now.flag a.self.now.number a.bytes.now a.self.now.fields _ starts _ heads _ c.bytes-head.ensures in
     let n = sym sized in
     written_over _ a.output.now _ _ _ (has_room _ a.output.now _ n (omega arith)) n
     (c.put.ensures ∙ ap (λ (x : List ℕ). over x a.output.now) led)
