@@ -9,7 +9,8 @@ overflow_mul-from c =
     record { fits = omega (arith, inside) }
 
 pub slice_bounds-left-count : goal.slice_bounds-left-count
-slice_bounds-left-count c = within_packet c.args.z c.args.packet.now c.args.k c.requires c.if-packet-le8.false
+slice_bounds-left-count c =
+    omega (arith, within_packet c.args.z c.args.packet.now c.args.k c.requires c.if-packet-le8.false)
 
 pub slice_bounds-left-start : goal.slice_bounds-left-start
 slice_bounds-left-start c =
