@@ -2,7 +2,7 @@
 // the count.
 #![tactic(auto)]
 
-ghost use Rattle.std.specs.Prelude.{◌≡◌, ◌≤◌, length, take, IfSome};
+ghost use Rattle.std.specs.Prelude.{◌≡◌, ◌≤◌, length, take, IfOk, MatchResult};
 ghost use Rattle.format.specs.Outputs.{output_after};
 ghost use Rattle.lister.specs.Listing as listings;
 
@@ -27,11 +27,13 @@ fn write(rt: &(impl Print + Eprint), answer: Result<usize, Refusal>, output: &[u
 }
 
 // The last lines, where no more comes than what is left of the input.
-fn end(rt: &(impl Print + Eprint), listing: Listing, rest: &[u8], output: &mut [u8])
-    ensures { output.new ≡ output_after (listings.ending listing rest.now (length output.old)) output.old }
+fn end(rt: &(impl Print + Eprint), listing: Listing, rest: &[u8], output: &mut [u8]) -> Listing
+    ensures value { result ≡ listing }
+    ensures output_after { output.new ≡ output_after (listings.ending listing rest.now (length output.old)) output.old }
 {
     let answer = listing.end(rest, output);
     write(rt, answer, output);
+    listing
 }
 
 // Reads on. Where no more comes, the listing ends with what is held: a number beside the input, as
@@ -42,31 +44,31 @@ fn more(
     input: &mut [u8],
     held: usize,
     output: &mut [u8],
-) -> Option<Session>
+) -> Result<Session, Listing>
     requires { held ≤ length input.old }
-    ensures held_in_bounds { IfSome result (λ next. next.held ≤ length input.old) }
-    ensures listing_value { IfSome result (λ next. next.listing ≡ listing) }
+    ensures held_in_bounds { IfOk result (λ next. next.held ≤ length input.old) }
+    ensures listing_value { MatchResult result (λ next. next.listing ≡ listing) (λ last. last ≡ listing) }
 {
     let all = pipes::read_on(rt, input, held);
     if all == held {
-        end(rt, listing, &input[..held], output);
-        return None;
+        return Err(end(rt, listing, &input[..held], output));
     }
-    Some(Session { listing, held: all })
+    Ok(Session { listing, held: all })
 }
 
 // Lists what is held, writes the lines, and reads on where all whole records are listed. So no line
-// waits for more input. None is the session's end.
+// waits for more input. An error is the session's end: the listing that it ended with, so that what is
+// ended is held to what was listed.
 fn turn(
     rt: &(impl Input + Print + Eprint),
     session: Session,
     store: &mut [u8],
     input: &mut [u8],
     output: &mut [u8],
-) -> Option<Session>
+) -> Result<Session, Listing>
     requires { session.held ≤ length input.old }
-    ensures held_in_bounds { IfSome result (λ next. next.held ≤ length input.old) }
-    ensures listing_value { IfSome result (λ next. next.listing ≡ (listings.listing session.listing store.old (take session.held input.old) output.old).listing) }
+    ensures held_in_bounds { IfOk result (λ next. next.held ≤ length input.old) }
+    ensures listing_value { MatchResult result (λ next. next.listing ≡ (listings.listing session.listing store.old (take session.held input.old) output.old).listing) (λ last. last ≡ (listings.listing session.listing store.old (take session.held input.old) output.old).listing) }
     ensures store_after { store.new ≡ (listings.listing session.listing store.old (take session.held input.old) output.old).store }
 {
     let Session { listing, held } = session;
@@ -74,18 +76,15 @@ fn turn(
     let listing = listed.listing;
     // No one is there to read it, or it cannot be written.
     if !pipes::write_out(rt, output, listed.written) {
-        return None;
+        return Err(listing);
     }
     let held = pipes::keep(input, listed.used, held);
     match listed.why {
         Ok(Why::Input) => more(rt, listing, input, held, output),
-        Ok(Why::Room) => Some(Session { listing, held }),
-        Ok(Why::Damaged) => {
-            end(rt, listing, &input[..held], output);
-            None
-        }
+        Ok(Why::Room) => Ok(Session { listing, held }),
+        Ok(Why::Damaged) => Err(end(rt, listing, &input[..held], output)),
         // Never: the listing stays sound (claim ListingStaysSound of lister), and the store has its size.
-        Err(_) => None,
+        Err(_) => Err(listing),
     }
 }
 
@@ -101,7 +100,7 @@ fn list(rt: &(impl Input + Print + Eprint), store: &mut [u8], input: &mut [u8], 
         held: 0,
     };
     for _ in 0..u64::MAX {
-        let Some(next) = turn(rt, session, store, input, output) else {
+        let Ok(next) = turn(rt, session, store, input, output) else {
             return;
         };
         session = next;
