@@ -1,5 +1,5 @@
--- What the private functions of this crate promise one another. Nothing here need be believed: the public contracts are proved
--- from it.
+-- What a push leaves, for the proofs of this crate and of those above it. Nothing here need be believed: the public contracts are
+-- proved from it.
 use Rattle.std.specs.Prelude.{ℕ, ◌+◌, ◌≡◌, List, ◌++◌, length, take}
 
 -- bytes are put into a text of which the first `at` bytes count, and r is where they end
