@@ -67,7 +67,7 @@ impl Receiver {
         requires { key_in_range Extended key ≡ true }
         ensures { Opens self.old.station key result self.new.station }
     {
-        let found = slot::find(self.station.slots, key);
+        let found = slot::find_in(&self.station.slots, &key);
         if found.is_some() {
             return found;
         }

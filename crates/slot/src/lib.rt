@@ -189,13 +189,20 @@ pub fn first_closed(slots: [Slot; 16]) -> Option<usize>
     slots.iter().position(|slot| slot.occupancy.is_none())
 }
 
-// The first slot that is open with the key. The slots need not be sound. Each slot's key is lent to the comparison: taken
-// by value it is put together first, and a search among sixteen takes twice the instructions.
+// The first slot that is open with the key. The slots need not be sound. Slots and key are lent: by value the slots are
+// copied, and each slot's key is put together before it is compared, which takes twice the instructions.
 #[tactic(auto, unfolding(crate::specs::Slots::same_key, crate::specs::Slots::same_fields, format::specs::Tests::all_true))]
+pub fn find_in(slots: &[Slot; 16], key: &Key) -> Option<usize>
+    ensures { result ≡ position (has_key key.now) slots.now }
+{
+    slots.iter().position(|slot| slot.occupancy.as_ref().is_some_and(|s| s.key == *key))
+}
+
+// The same of slots by value.
 pub fn find(slots: [Slot; 16], key: Key) -> Option<usize>
     ensures { result ≡ position (has_key key) slots }
 {
-    slots.iter().position(|slot| slot.occupancy.as_ref().is_some_and(|s| s.key == key))
+    find_in(&slots, &key)
 }
 
 // Where the key is open, or STATE. Soundness is found out on the way, from the same codes.
